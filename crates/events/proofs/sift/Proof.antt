@@ -1,0 +1,25 @@
+use mathlib.Core.Path.{sym, _∙_}
+use Rattle.events.specs.Withdraw.{sifted-moves, sifted-drops}
+use borrow.Author.Needs.{needs}
+use Rattle.events.proofs.sift.Statement.{statement}
+use Rattle.events.proofs.sift.Tie as tie
+
+place-requires : tie.Need-place-requires
+place-requires c κs = search needs
+
+stays-requires : tie.Need-stays-requires
+stays-requires c κs = search needs
+
+push-requires : tie.Need-push-requires
+push-requires c κs = search needs
+
+returns : tie.Need-returns
+returns c =
+    sifted-moves _ _ _ _ _ (c .before .before .before .before .place .ensures) _ _
+    (sym (c .before .before .before .stays .ensures) ∙ c .before .before .if1 .taken) (c .push .ensures)
+
+returns-2 : tie.Need-returns-2
+returns-2 c = sifted-drops _ _ _ _ _ (c .before .before .place .ensures) (sym (c .before .stays .ensures) ∙ c .if1 .left)
+
+pub sift-spec : {M : Type 1} → statement M
+sift-spec = tie.close (tie.spec place-requires stays-requires push-requires returns returns-2)

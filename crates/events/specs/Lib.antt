@@ -1,0 +1,6 @@
+pub mod Numbers
+pub mod Events
+pub mod Log
+pub mod Held
+pub mod Queries
+pub mod Withdraw

@@ -1,0 +1,87 @@
+-- The log of an answer: words that the caller lends, 96 places of eight words, and how many of the
+-- places are taken.
+use Prim.Native.Nat.{ℕ, _+_, _-_, _*_}
+use mathlib.Core.Path.{_≡_, refl, sym, _∙_, ap}
+use mathlib.Core.List.{List, [], _∷_, _++_, map}
+use lib.Dec.{ltb}
+use lib.ListN.{getD}
+use lib.Seq.{sets}
+use Rattle.time.specs.Pick.{pick}
+use Rattle.time.specs.Time.{least}
+use Rattle.time.specs.Lists.{range}
+use Rattle.events.specs.Events.{Event, wordsOf}
+use Rattle.events.specs.declared.Words.{Words}
+
+pub record Log : Type 0 where
+  pub len : ℕ
+  pub words : List ℕ
+
+unfoldable pub at : ℕ → List ℕ → Log
+at n ws = record { len = n; words = ws }
+
+-- "No answer has more than 96."
+abbrev pub maxEvents : ℕ
+maxEvents = 96
+
+-- eight words put at the next place; a full log stays as it is
+unfoldable pub stored : Log → List ℕ → Log
+stored v w = pick (ltb (v .len) maxEvents) (at (v .len + 1) (sets (v .words) (v .len * 8) w)) v
+
+unfoldable pub pushed : Log → Event → Log
+pushed v e = stored v (wordsOf e)
+
+-- the log with each event of a list put in, in order
+abbrev pub logged : Log → List Event → Log
+logged v [] = v
+logged v (e ∷ es) = logged (pushed v e) es
+
+-- the eight words of place i
+abbrev pub placeOf : List ℕ → ℕ → List ℕ
+placeOf ws i =
+    getD ws (i * 8) 0
+    ∷ getD ws (i * 8 + 1) 0
+    ∷ getD ws (i * 8 + 2) 0
+    ∷ getD ws (i * 8 + 3) 0
+    ∷ getD ws (i * 8 + 4) 0
+    ∷ getD ws (i * 8 + 5) 0
+    ∷ getD ws (i * 8 + 6) 0
+    ∷ getD ws (i * 8 + 7) 0
+    ∷ []
+
+-- how many places a length takes: one that claims more than there are counts as all of them
+unfoldable pub takenOf : ℕ → ℕ
+takenOf n = least n maxEvents
+
+-- the places from i up to n, as lists of eight words
+unfoldable pub placesOf : List ℕ → ℕ → ℕ → List (List ℕ)
+placesOf ws i n = map (placeOf ws) (range i (n - i))
+
+-- what a log holds, in order
+unfoldable pub held : Log → List (List ℕ)
+held v = placesOf (v .words) 0 (takenOf (v .len))
+
+-- the words as the code carries them
+abbrev pub listOf : Words → List ℕ
+listOf w = w .kind ∷ w .a ∷ w .b ∷ w .c ∷ w .d ∷ w .e ∷ w .f ∷ w .g ∷ []
+
+-- ---- laws
+
+pub at-len : (n : ℕ) (ws : List ℕ) → at n ws .len ≡ n
+unfolding at
+at-len n ws = refl
+
+pub at-words : (n : ℕ) (ws : List ℕ) → at n ws .words ≡ ws
+unfolding at
+at-words n ws = refl
+
+pub logged-append : (v : Log) (a b : List Event) → logged v (a ++ b) ≡ logged (logged v a) b
+logged-append v [] b = refl
+logged-append v (e ∷ a) b = logged-append (pushed v e) a b
+
+-- one event after what was known
+pub after : {l m n : Log} (e : Event) → m ≡ l → n ≡ pushed m e → n ≡ pushed l e
+after e p q = q ∙ ap (λ v. pushed v e) p
+
+-- a list of events after what was known
+pub after-all : {m n : Log} (l : Log) (a b : List Event) → m ≡ logged l a → n ≡ logged m b → n ≡ logged l (a ++ b)
+after-all l a b p q = q ∙ (ap (λ v. logged v b) p ∙ sym (logged-append l a b))

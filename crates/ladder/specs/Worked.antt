@@ -1,0 +1,40 @@
+-- P1 to P11 of document 01, one table, against the definitions.
+use Prim.Native.Nat.{ℕ}
+use mathlib.Core.Bool.{Bool, true, false}
+use mathlib.Core.Path.{_≡_, refl}
+use mathlib.Core.List.{List, [], _∷_}
+use Rattle.time.specs.declared.When.{When}
+use Rattle.time.specs.Lists.{fold, range, kept, takeWhile}
+use Rattle.time.specs.Time.{none, at, laterOf, satMul, least, most}
+use Rattle.ladder.specs.declared.Ladder.{Ladder}
+use Rattle.ladder.specs.declared.Took.{Took}
+use Rattle.ladder.specs.Schedule.{Rung, Plan, send, keepalive, cut, doubled, doublingOf, keepalives, filled, probesOf, bitsOf, laid, rungAt, heldOf, rungsOf}
+use Rattle.ladder.specs.Ladder.{anew, remaining, nextAtOf, dueRungs, taking, takeOf}
+
+abbrev plan : List Rung → ℕ → Plan
+plan l d = record { rungs = l; dropped = d }
+
+-- P7's ladder from an origin
+abbrev p7 : ℕ → Ladder
+p7 t = anew t (laid 16 (keepalive 3000 ∷ send 5000 ∷ keepalive 8000 ∷ []))
+
+-- what a take tells: a rung was due, one was a send, the latest offset, none is left
+abbrev tells : Took → Bool × (Bool × (ℕ × Bool))
+tells t = (t .any, (t .send, (t .latest, t .last)))
+
+pub record Table : Type 0 where
+  pub p1 : doublingOf 16 1000 1 (at 1000) ≡ plan [] 1
+  pub p2 : doublingOf 16 1000 1 (at 1001) ≡ plan (send 1000 ∷ []) 0
+  pub p3 : doublingOf 16 0 1 none ≡ plan (send 1 ∷ []) 0
+  pub p4 : probesOf 16 1000 0 10000 3000 ≡ plan (keepalive 3000 ∷ keepalive 6000 ∷ keepalive 9000 ∷ []) 0
+  pub p5 : probesOf 16 1000 0 9000 3000 ≡ plan (keepalive 3000 ∷ keepalive 6000 ∷ []) 0
+  pub p6 : probesOf 16 1000 0 20 0 ≡ plan (keepalive 1 ∷ keepalive 2 ∷ keepalive 3 ∷ keepalive 4 ∷ keepalive 5 ∷ keepalive 6 ∷ keepalive 7 ∷ keepalive 8 ∷ keepalive 9 ∷ keepalive 10 ∷ keepalive 11 ∷ keepalive 12 ∷ keepalive 13 ∷ keepalive 14 ∷ keepalive 15 ∷ keepalive 16 ∷ []) 3
+  pub p7-plan : probesOf 16 5000 1 10000 3000 ≡ plan (keepalive 3000 ∷ send 5000 ∷ keepalive 8000 ∷ []) 0
+  pub p8 : takeOf (p7 0) 2999 .any ≡ false
+  pub p9 : tells (takeOf (p7 0) 3000) ≡ (true, (false, (3000, false)))
+  pub p10 : tells (takeOf (p7 0) 8000) ≡ (true, (true, (8000, true)))
+  pub p11 : nextAtOf (p7 18446744073709550615) ≡ at 18446744073709550615
+
+pub table : Table
+unfolding fold range kept takeWhile laterOf satMul least most cut doubled doublingOf keepalives filled probesOf bitsOf laid rungAt heldOf rungsOf remaining nextAtOf dueRungs taking takeOf
+table = record { p1 = refl; p2 = refl; p3 = refl; p4 = refl; p5 = refl; p6 = refl; p7-plan = refl; p8 = refl; p9 = refl; p10 = refl; p11 = refl }

@@ -1,0 +1,4 @@
+pub mod Params
+pub mod Laws
+pub mod Span
+pub mod Worked

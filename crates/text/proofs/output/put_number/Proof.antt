@@ -1,0 +1,48 @@
+-- `text::output::put_number` meets its contract. Assumes nothing.
+use mathlib.Core.Path.{_∙_}
+use Rattle.text.proofs.Laws.{spelled}
+use borrow.Author.Needs.{needs}
+use Rattle.text.proofs.output.put_number.Statement.{statement}
+use Rattle.text.proofs.output.put_number.Tie as tie
+use Rattle.text.proofs.output.put_number.Reads as reads
+use Rattle.text.proofs.output.put_number.Lts as lts
+use Rattle.io.proofs.decimal.Reads as decimal-reads
+use Rattle.text.proofs.output.put.Reads as put-reads
+
+-- src/output.rt:36:9
+decimal-requires : tie.Need-decimal-requires
+decimal-requires c κs = search needs
+
+-- src/output.rt:37:18
+array-share-prefix-digits : tie.Need-array-share-prefix-digits
+array-share-prefix-digits c = search needs
+
+-- src/output.rt:37:18
+slice-aggregate-put : tie.Need-slice-aggregate-put
+slice-aggregate-put c = search needs
+
+-- src/output.rt:37:5
+put-requires : tie.Need-put-requires
+put-requires c κs = search needs
+
+-- src/output.rt:32:1
+same-length : tie.Need-same-length
+same-length c = search needs
+
+-- src/output.rt:32:1
+returns : tie.Need-returns
+returns c =
+    let d = c .before .before .before .before .before .decimal in
+    let e = d .ensures .1 .1 ∙ spelled (c .before .before .before .before .before .before .before .before .args .n) (d .result) (c .before .before .before .before .before .before .before .before .fits .n .fits) (d .ensures .1 .0) in
+    rw e at (c .before .before .put .ensures)
+
+pub put-number-spec : {M : Type 1} → statement M
+put-number-spec =
+    tie.close
+    (tie.spec
+    decimal-requires
+    array-share-prefix-digits
+    slice-aggregate-put
+    put-requires
+    same-length
+    returns)
