@@ -1,6 +1,6 @@
 -- The candidates as a list, and what each operation makes of it.
-use Prim.Native.Nat.{ℕ, zero, suc, _+_, _-_}
-use mathlib.Core.Bool.{Bool, true, false}
+use Prim.Native.Nat.{ℕ, suc, _+_, _-_}
+use mathlib.Core.Bool.{Bool, false}
 use mathlib.Core.List.{List, [], _∷_, _++_, map}
 use lib.Dec.{leb, ltb, eqb}
 use lib.ListN.{length, getD, drop}
@@ -39,7 +39,18 @@ firsts n l = between 0 (heldOf n) l
 -- the candidate at place i
 unfoldable pub candAt : Candidates → ℕ → Candidate
 candAt v i =
-    record { hs = getD (v .hs) i 0; msg1 = getD (v .msg1) i 0; ack = getD (v .ack) i 0; carrier = getD (v .carrier) i 0; route = getD (v .route) i 0; born = getD (v .born) i 0; deadline = getD (v .deadline) i 0; bounded = getD (v .bounded) i 0; bound = getD (v .bound) i 0; seq = getD (v .seq) i 0 }
+    record {
+      hs = getD (v .hs) i 0;
+      msg1 = getD (v .msg1) i 0;
+      ack = getD (v .ack) i 0;
+      carrier = getD (v .carrier) i 0;
+      route = getD (v .route) i 0;
+      born = getD (v .born) i 0;
+      deadline = getD (v .deadline) i 0;
+      bounded = getD (v .bounded) i 0;
+      bound = getD (v .bound) i 0;
+      seq = getD (v .seq) i 0;
+    }
 
 -- "The candidates, oldest first." (`iter`)
 unfoldable pub heldBy : Candidates → List Candidate
@@ -87,7 +98,20 @@ chosen ps l = map (λ i. getD l i 0) ps ++ drop (length ps) l
 -- the candidates at the places ps
 unfoldable pub choosing : List ℕ → Candidates → Candidates
 choosing ps v =
-    record { hs = chosen ps (v .hs); msg1 = chosen ps (v .msg1); ack = chosen ps (v .ack); carrier = chosen ps (v .carrier); route = chosen ps (v .route); born = chosen ps (v .born); deadline = chosen ps (v .deadline); bounded = chosen ps (v .bounded); bound = chosen ps (v .bound); seq = chosen ps (v .seq); len = length ps; next = v .next }
+    record {
+      hs = chosen ps (v .hs);
+      msg1 = chosen ps (v .msg1);
+      ack = chosen ps (v .ack);
+      carrier = chosen ps (v .carrier);
+      route = chosen ps (v .route);
+      born = chosen ps (v .born);
+      deadline = chosen ps (v .deadline);
+      bounded = chosen ps (v .bounded);
+      bound = chosen ps (v .bound);
+      seq = chosen ps (v .seq);
+      len = length ps;
+      next = v .next;
+    }
 
 -- the places below n but k
 unfoldable pub others : ℕ → ℕ → List ℕ

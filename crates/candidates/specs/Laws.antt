@@ -5,14 +5,14 @@ use mathlib.Core.Path.{_≡_, refl, sym, _∙_, ap, ap₂}
 use mathlib.Core.List.{List, [], _∷_, _++_, map, map-map, Sublistᴰ, Sublistᴰ·nil-sublist, Sublistᴰ·slnil, Sublistᴰ·cons, Sublistᴰ·cons-cons, Sublistᴰ·refl}
 use native.Mathlib.Nat.{zero-add, add-zero, sub-zero}
 use native.Mathlib.Omega.{arith}
-use borrow.Author.Tests.{lt-ltb, ltb-false, leb-true, leb-false}
+use borrow.Author.Tests.{lt-ltb, le-ltb, ltb-false, leb-true, leb-false}
 use lib.Dec.{leb, ltb, eqb, leb·suc-suc}
 use lib.ListN.{length, getD, take, drop, length-map, length-append, List·getD-append}
 use lib.Seq.{ext-getD}
 use Rattle.time.specs.Pick.{pick}
 use Rattle.time.specs.declared.When.{When}
 use Rattle.time.specs.Lists.{fold, range, kept, length-range}
-use Rattle.time.specs.Time.{none, at, least, soonerOf, reachedOf, least-left, least-le}
+use Rattle.time.specs.Time.{none, at, soonerOf, reachedOf, least-left, least-le}
 use Rattle.candidates.specs.declared.Candidates.{Candidates}
 use Rattle.candidates.specs.Held.{Candidate, heldOf, between, firsts, candAt, heldBy, numbers, without, expiredIn, bornAfter, earliestOf, placeOf, spotOf, chosen, choosing, others, removedOf, younger, keptAfter, clearedOf, leaving, expireOf}
 use Rattle.candidates.specs.Places.{length-between, others-none, read-range}
@@ -151,10 +151,6 @@ module _ (v : Candidates) (s : ℕ) where
       under true = omega (arith, held-most (v .len), others-within)
       under false = omega arith
 
-  -- the place that a search gives
-  pub spot-found : (n i : ℕ) → n ≡ heldOf (v .len) → i ≡ 0 + placeOf s (between 0 n (v .seq)) → i ≡ spotOf v s
-  spot-found n i p q = q ∙ (zero-add (placeOf s (between 0 n (v .seq))) ∙ ap (λ m. placeOf s (between 0 m (v .seq))) p)
-
 -- ---- expired
 
 expired-place : (f : ℕ → Candidate) (s now i n : ℕ) → expiredIn s now (map f (range i n)) ≡ pick (ltb (spot f s i n) n) (leb (f (i + spot f s i n) .deadline) now) false
@@ -177,6 +173,32 @@ unfolding heldBy candAt
 expired-at v s now =
     expired-place (candAt v) s now 0 (heldOf (v .len))
     ∙ ap₂ (λ k j. pick (ltb k (heldOf (v .len))) (leb (getD (v .deadline) j 0) now) false) (sym (spot-of v s)) (zero-add (spot (candAt v) s 0 (heldOf (v .len))) ∙ sym (spot-of v s))
+
+-- ---- what a search among the n held, which gives place i, tells
+
+module _ (v : Candidates) (s n i : ℕ) (p : n ≡ heldOf (v .len)) (f : i ≡ 0 + placeOf s (between 0 n (v .seq))) where
+  found : i ≡ spotOf v s
+  found = f ∙ (zero-add (placeOf s (between 0 n (v .seq))) ∙ ap (λ m. placeOf s (between 0 m (v .seq))) p)
+
+  here : i < n → ltb (spotOf v s) (heldOf (v .len)) ≡ true
+  here h = lt-ltb (spotOf v s) (heldOf (v .len)) (rw (found, p) at h)
+
+  nowhere : n ≤ i → ltb (spotOf v s) (heldOf (v .len)) ≡ false
+  nowhere h = le-ltb (spotOf v s) (heldOf (v .len)) (rw (found, p) at h)
+
+  pub removed-here : i < n → choosing (others i n) v ≡ removedOf v s
+  unfolding removedOf
+  removed-here h = ap₂ (λ j m. choosing (others j m) v) found p ∙ rw (here h)
+
+  pub removed-none : n ≤ i → v ≡ removedOf v s
+  unfolding removedOf
+  removed-none h = rw (nowhere h)
+
+  pub expired-here : (now : ℕ) → i < n → expiredIn s now (heldBy v) ≡ leb (getD (v .deadline) i 0) now
+  expired-here now h = expired-at v s now ∙ (rw (here h) (ap (λ j. leb (getD (v .deadline) j 0) now) (sym found)))
+
+  pub expired-none : (now : ℕ) → n ≤ i → expiredIn s now (heldBy v) ≡ false
+  expired-none now h = expired-at v s now ∙ rw (nowhere h)
 
 -- ---- retain
 
@@ -213,9 +235,14 @@ module _ (v : Candidates) (t : ℕ) where
   unfolding keptAfter choosing
   kept-len = omega (arith, held-most (v .len), younger-most)
 
+-- "`retain(|_| false)`": none is left
 pub held-cleared : (v : Candidates) → heldBy (clearedOf v) ≡ []
 unfolding clearedOf
 held-cleared v = held-choosing [] v (omega arith)
+
+pub cleared-len : (v : Candidates) → clearedOf v .len ≡ 0
+unfolding clearedOf choosing
+cleared-len v = refl
 
 -- the row of the poll, on the list
 pub held-expire : (v : Candidates) (s now : ℕ) → heldBy (expireOf v s now .cands) ≡ pick (expiredIn s now (heldBy v)) (without s (heldBy v)) (heldBy v)

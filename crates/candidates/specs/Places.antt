@@ -1,15 +1,14 @@
 -- Laws of arrays read and moved place by place, for the loops.
 use Prim.Native.Nat.{ℕ, zero, suc, _≤_, _<_, _+_, _-_}
 use mathlib.Core.Bool.{Bool, true, false}
-use mathlib.Core.Path.{_≡_, refl, sym, _∙_, ap, ap₂}
+use mathlib.Core.Path.{_≡_, refl, sym, _∙_, ap}
 use mathlib.Core.Logic.{⊎-elim}
 use mathlib.Core.List.{List, [], _∷_, _++_, map, append-nil, append-assoc, map-append}
 use native.Mathlib.Nat.{zero-add, add-zero, sub-zero}
 use native.Mathlib.Numerals.{add-one}
 use native.Mathlib.Omega.{arith}
 use borrow.Author.Tests.{eq-eqb, ne-eqb, lt-ltb, le-ltb}
-use lib.Dec.{ltb, eqb}
-use lib.ListN.{length, getD, take, drop, set, length-set, length-map, length-append, take-append-drop}
+use lib.ListN.{length, getD, take, drop, set, length-map, length-append, take-append-drop}
 use lib.Seq.{drop-cons, append-snoc, take-suc-set, drop-set-lt, getD-set-other}
 use Rattle.time.specs.Pick.{pick}
 use Rattle.time.specs.Lists.{fold, range, kept, range-next, range-end, length-range}

@@ -160,7 +160,8 @@ pub fn earliest(deadlines: &[u64; 32], n: usize) -> When
     w
 }
 
-// Without the one at place `i`.
+// Without the one at place `i`. Here and below a parameter becomes a local before its fields are
+// lent, so that the proof sees it whole.
 fn dropped(v: Candidates, i: usize, n: usize) -> Candidates
     requires { ⌜ (i < n) × (n ≤ 32) ⌝ }
     ensures { λ r. ⌜ r ≡ choosing (others i n) v ⌝ }
@@ -209,15 +210,24 @@ pub fn is_expired(v: Candidates, seq: u64, now: u64) -> bool
 pub fn expire(v: Candidates, seq: u64, now: u64) -> Expired
     ensures { λ r. ⌜ r ≡ expireOf v seq now ⌝ }
 {
-    if is_expired(v, seq, now) {
+    let v = v;
+    let n = held(v.len);
+    let i = find(&v.seq, 0, n, seq);
+    if n <= i {
         return Expired {
-            cands: remove(v, seq),
-            gone: true,
+            cands: v,
+            gone: false,
+        };
+    }
+    if now < read(&v.deadline, i) {
+        return Expired {
+            cands: v,
+            gone: false,
         };
     }
     Expired {
-        cands: v,
-        gone: false,
+        cands: dropped(v, i, n),
+        gone: true,
     }
 }
 

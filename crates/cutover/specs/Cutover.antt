@@ -69,34 +69,69 @@ heardNow w evidence now = pick (isFrame evidence) (at now) w
 unfoldable pub adopted : Epoch → Final → ℕ → Config → ℕ → Epoch
 adopted e fin evidence cfg now =
     record {
-      tag = e .tag; session = e .session; sent = e .sent; ids = e .ids; k = e .k; responder = e .responder;
+      tag = e .tag;
+      session = e .session;
+      sent = e .sent;
+      ids = e .ids;
+      k = e .k;
+      responder = e .responder;
       base = pick (e .base .some) (e .base) (at now);
-      started = now; route = e .route; ext = e .ext; delegated = e .delegated; floor = e .floor;
+      started = now;
+      route = e .route;
+      ext = e .ext;
+      delegated = e .delegated;
+      floor = e .floor;
       heard = heardNow (e .heard) evidence now;
       moved = heardNow (e .moved) evidence now;
       assumed = e .assumed;
       fin = keptFin fin evidence;
       elicit = pick (heardNow (e .moved) evidence now .some) (e .elicit) (record { some = true; ladder = anew now (elicitMade cfg .sched) });
-      prompted = at now
+      prompted = at now;
     }
 
 -- ---- the memory: "Resetting the link's age at every cutover; only a peer restart does."
 unfoldable pub heardFrame : Memory → Bool → ℕ → Memory
 heardFrame m k now =
     record {
-      «peer_epoch» = m .«peer_epoch»; «peer_k» = record { some = true; on = k }; jitter = m .jitter; damp = m .damp;
-      backoff = m .backoff; abandons = m .abandons; «last_rx» = at now; «rx_cur» = at now; «sent_data» = false; silence = 0;
-      «link_since» = m .«link_since»; «last_cutover» = m .«last_cutover»; «hs_rtt» = m .«hs_rtt»; srtt = m .srtt;
-      «setup_rto» = m .«setup_rto»; reachable = m .reachable; due = m .due
+      «peer_epoch» = m .«peer_epoch»;
+      «peer_k» = record { some = true; on = k };
+      jitter = m .jitter;
+      damp = m .damp;
+      backoff = m .backoff;
+      abandons = m .abandons;
+      «last_rx» = at now;
+      «rx_cur» = at now;
+      «sent_data» = false;
+      silence = 0;
+      «link_since» = m .«link_since»;
+      «last_cutover» = m .«last_cutover»;
+      «hs_rtt» = m .«hs_rtt»;
+      srtt = m .srtt;
+      «setup_rto» = m .«setup_rto»;
+      reachable = m .reachable;
+      due = m .due;
     }
 
 unfoldable pub cutMemory : Memory → Bool → Bool → ℤ → ℕ → Memory
 cutMemory m restart due spread now =
     record {
-      «peer_epoch» = m .«peer_epoch»; «peer_k» = m .«peer_k»; jitter = spread; damp = m .damp; backoff = m .backoff;
-      abandons = 0; «last_rx» = m .«last_rx»; «rx_cur» = m .«rx_cur»; «sent_data» = m .«sent_data»; silence = m .silence;
-      «link_since» = pick restart now (m .«link_since»); «last_cutover» = at now; «hs_rtt» = m .«hs_rtt»; srtt = m .srtt;
-      «setup_rto» = m .«setup_rto»; reachable = m .reachable; due = pick due true (m .due)
+      «peer_epoch» = m .«peer_epoch»;
+      «peer_k» = m .«peer_k»;
+      jitter = spread;
+      damp = m .damp;
+      backoff = m .backoff;
+      abandons = 0;
+      «last_rx» = m .«last_rx»;
+      «rx_cur» = m .«rx_cur»;
+      «sent_data» = m .«sent_data»;
+      silence = m .silence;
+      «link_since» = pick restart now (m .«link_since»);
+      «last_cutover» = at now;
+      «hs_rtt» = m .«hs_rtt»;
+      srtt = m .srtt;
+      «setup_rto» = m .«setup_rto»;
+      reachable = m .reachable;
+      due = pick due true (m .due);
     }
 
 unfoldable pub remembered : Memory → Bool → Bool → ℕ → Bool → ℤ → ℕ → Memory
@@ -120,5 +155,5 @@ unfoldable pub cutoverOf : State → Given → ℤ → Pend → ℕ → Bool →
 cutoverOf s g spread p evidence k =
     record {
       state = record { mem = remembered (s .mem) (p .restart) (spent (p .fin) evidence) evidence k spread (g .now); cur = record { some = true; ep = adopted (p .ep) (p .fin) evidence (g .cfg) (g .now) }; drain = demoted (s .cur .ep) (p .restart) evidence (g .cfg) (g .now); cycle = idled (s .cycle); cands = pruned (s .cands) evidence (g .profile .smaller) };
-      out = givenUp (s .drain) (s .cur .ep) (p .restart) ++ announced (adopted (p .ep) (p .fin) evidence (g .cfg) (g .now)) (p .restart) (s .mem .«peer_epoch») evidence (g .workers)
+      out = givenUp (s .drain) (s .cur .ep) (p .restart) ++ announced (adopted (p .ep) (p .fin) evidence (g .cfg) (g .now)) (p .restart) (s .mem .«peer_epoch») evidence (g .workers);
     }

@@ -60,7 +60,11 @@ fn prune(v: Candidates, evidence: u64, smaller: bool) -> Candidates
 fn hold(evidence: u64, cfg: Config) -> u64
     ensures { λ r. ⌜ r ≡ pick (isFrame evidence) (cfg .drain) (cfg .retention) ⌝ }
 {
-    if evidence == 1 { cfg.drain } else { cfg.retention }
+    if evidence == 1 {
+        cfg.drain
+    } else {
+        cfg.retention
+    }
 }
 
 // The old epoch as the drain, where the peer did not restart.
@@ -141,7 +145,10 @@ fn heard_now(w: When, evidence: u64, time: u64) -> When
     ensures { λ r. ⌜ r ≡ heardNow w evidence time ⌝ }
 {
     if evidence == 1 {
-        When { some: true, at: time }
+        When {
+            some: true,
+            at: time,
+        }
     } else {
         w
     }
@@ -151,7 +158,14 @@ fn heard_now(w: When, evidence: u64, time: u64) -> When
 fn or_now(w: When, time: u64) -> When
     ensures { λ r. ⌜ r ≡ pick (w .some) w (whenAt time) ⌝ }
 {
-    if w.some { w } else { When { some: true, at: time } }
+    if w.some {
+        w
+    } else {
+        When {
+            some: true,
+            at: time,
+        }
+    }
 }
 
 // Prompt repeats until the peer is seen to move.
@@ -164,7 +178,10 @@ fn elicits(moved: bool, l: MayLadder, cfg: Config, time: u64) -> MayLadder
         let m = params::elicit(cfg);
         let sched = m.sched;
         let ladder = Ladder::new(time, sched);
-        MayLadder { some: true, ladder: ladder }
+        MayLadder {
+            some: true,
+            ladder: ladder,
+        }
     }
 }
 
@@ -179,7 +196,10 @@ fn adopt(ep: Epoch, fin: Final, evidence: u64, cfg: Config, time: u64) -> Epoch
     let elicit = elicits(moved.some, ep.elicit, cfg, time);
     let mut f = fin;
     f.some = some;
-    let w = When { some: true, at: time };
+    let w = When {
+        some: true,
+        at: time,
+    };
     let mut e = ep;
     e.base = base;
     e.started = time;
@@ -195,7 +215,10 @@ fn adopt(ep: Epoch, fin: Final, evidence: u64, cfg: Config, time: u64) -> Epoch
 fn remember_frame(m: Memory, k: bool, time: u64) -> Memory
     ensures { λ r. ⌜ r ≡ heardFrame m k time ⌝ }
 {
-    let w = When { some: true, at: time };
+    let w = When {
+        some: true,
+        at: time,
+    };
     let b = Bit { some: true, on: k };
     let mut m2 = m;
     m2.last_rx = w;
@@ -207,11 +230,22 @@ fn remember_frame(m: Memory, k: bool, time: u64) -> Memory
 }
 
 // The memory after a cutover: the link's age is reset by a restart only.
-fn remember(m: Memory, restart: bool, due: bool, evidence: u64, k: bool, spread: i32, time: u64) -> Memory
+fn remember(
+    m: Memory,
+    restart: bool,
+    due: bool,
+    evidence: u64,
+    k: bool,
+    spread: i32,
+    time: u64,
+) -> Memory
     ensures { λ r. ⌜ r ≡ remembered m restart due evidence k spread time ⌝ }
 {
     let since = since_of(m.link_since, restart, time);
-    let w = When { some: true, at: time };
+    let w = When {
+        some: true,
+        at: time,
+    };
     let d = either(due, m.due);
     let mut m2 = m;
     m2.jitter = spread;
@@ -219,7 +253,11 @@ fn remember(m: Memory, restart: bool, due: bool, evidence: u64, k: bool, spread:
     m2.last_cutover = w;
     m2.abandons = 0;
     m2.due = d;
-    if evidence == 1 { remember_frame(m2, k, time) } else { m2 }
+    if evidence == 1 {
+        remember_frame(m2, k, time)
+    } else {
+        m2
+    }
 }
 
 fn since_of(since: u64, restart: bool, time: u64) -> u64
@@ -250,7 +288,15 @@ fn restarted(restart: bool, peer: When, log: &mut [u64; 768], len: usize) -> usi
 }
 
 // What is told of the new epoch.
-fn announce(ep: Epoch, restart: bool, peer: When, evidence: u64, workers: bool, log: &mut [u64; 768], len: usize) -> usize
+fn announce(
+    ep: Epoch,
+    restart: bool,
+    peer: When,
+    evidence: u64,
+    workers: bool,
+    log: &mut [u64; 768],
+    len: usize,
+) -> usize
     ensures { λ r. ⌜ at r (now (log .exit)) ≡ logged (at len (now (log .entry))) (announced ep restart peer evidence workers) ⌝ }
 {
     let a = retire::delegate(ep, workers, log, len);
@@ -262,7 +308,16 @@ fn announce(ep: Epoch, restart: bool, peer: When, evidence: u64, workers: bool, 
 
 // The candidates are pruned, an open drain is retired, the current epoch is retired after a restart
 // or drained otherwise, the new epoch is installed, and the cutover is told.
-pub fn cutover(s: State, g: Given, spread: i32, p: Pend, evidence: u64, k: bool, log: &mut [u64; 768], len: usize) -> Cut
+pub fn cutover(
+    s: State,
+    g: Given,
+    spread: i32,
+    p: Pend,
+    evidence: u64,
+    k: bool,
+    log: &mut [u64; 768],
+    len: usize,
+) -> Cut
     ensures { λ r. ⌜ (r .state ≡ cutoverOf s g spread p evidence k .state) × (at (r .len) (now (log .exit)) ≡ logged (at len (now (log .entry))) (cutoverOf s g spread p evidence k .out)) ⌝ }
 {
     let old = s.cur.ep;

@@ -23,14 +23,28 @@ movedInit a l b =
 abbrev pub withFin : PendI → Final → PendI
 withFin p f =
     record {
-      ep = p .ep; wait = p .wait; deadline = p .deadline; restart = p .restart; fin = f; probes = p .probes; probed = p .probed;
-      stayed = p .stayed; reverted = p .reverted
+      ep = p .ep;
+      wait = p .wait;
+      deadline = p .deadline;
+      restart = p .restart;
+      fin = f;
+      probes = p .probes;
+      probed = p .probed;
+      stayed = p .stayed;
+      reverted = p .reverted;
     }
 
 -- probes moved, when the last probe was sent, and whether the peer was heard to stay
 abbrev pub withProbes : PendI → MayLadder → When → Bool → PendI
 withProbes p l w b =
     record {
-      ep = p .ep; wait = p .wait; deadline = p .deadline; restart = p .restart; fin = p .fin; probes = l; probed = w;
-      stayed = b; reverted = p .reverted
+      ep = p .ep;
+      wait = p .wait;
+      deadline = p .deadline;
+      restart = p .restart;
+      fin = p .fin;
+      probes = l;
+      probed = w;
+      stayed = b;
+      reverted = p .reverted;
     }

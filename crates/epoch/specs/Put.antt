@@ -11,18 +11,48 @@ use Rattle.epoch.specs.declared.MayEpoch.{MayEpoch}
 abbrev pub putFin : Epoch → Final → Epoch
 putFin e f =
     record {
-      tag = e .tag; session = e .session; sent = e .sent; ids = e .ids; k = e .k; responder = e .responder; base = e .base;
-      started = e .started; route = e .route; ext = e .ext; delegated = e .delegated; floor = e .floor; heard = e .heard;
-      moved = e .moved; assumed = e .assumed; fin = f; elicit = e .elicit; prompted = e .prompted
+      tag = e .tag;
+      session = e .session;
+      sent = e .sent;
+      ids = e .ids;
+      k = e .k;
+      responder = e .responder;
+      base = e .base;
+      started = e .started;
+      route = e .route;
+      ext = e .ext;
+      delegated = e .delegated;
+      floor = e .floor;
+      heard = e .heard;
+      moved = e .moved;
+      assumed = e .assumed;
+      fin = f;
+      elicit = e .elicit;
+      prompted = e .prompted;
     }
 
 -- prompt repeats, and when the last prompt was sealed
 abbrev pub putElicit : Epoch → MayLadder → When → Epoch
 putElicit e l w =
     record {
-      tag = e .tag; session = e .session; sent = e .sent; ids = e .ids; k = e .k; responder = e .responder; base = e .base;
-      started = e .started; route = e .route; ext = e .ext; delegated = e .delegated; floor = e .floor; heard = e .heard;
-      moved = e .moved; assumed = e .assumed; fin = e .fin; elicit = l; prompted = w
+      tag = e .tag;
+      session = e .session;
+      sent = e .sent;
+      ids = e .ids;
+      k = e .k;
+      responder = e .responder;
+      base = e .base;
+      started = e .started;
+      route = e .route;
+      ext = e .ext;
+      delegated = e .delegated;
+      floor = e .floor;
+      heard = e .heard;
+      moved = e .moved;
+      assumed = e .assumed;
+      fin = e .fin;
+      elicit = l;
+      prompted = w;
     }
 
 abbrev pub putPrompted : Epoch → When → Epoch
@@ -31,9 +61,24 @@ putPrompted e w = putElicit e (e .elicit) w
 abbrev pub putAssumed : Epoch → Bool → Epoch
 putAssumed e b =
     record {
-      tag = e .tag; session = e .session; sent = e .sent; ids = e .ids; k = e .k; responder = e .responder; base = e .base;
-      started = e .started; route = e .route; ext = e .ext; delegated = e .delegated; floor = e .floor; heard = e .heard;
-      moved = e .moved; assumed = b; fin = e .fin; elicit = e .elicit; prompted = e .prompted
+      tag = e .tag;
+      session = e .session;
+      sent = e .sent;
+      ids = e .ids;
+      k = e .k;
+      responder = e .responder;
+      base = e .base;
+      started = e .started;
+      route = e .route;
+      ext = e .ext;
+      delegated = e .delegated;
+      floor = e .floor;
+      heard = e .heard;
+      moved = e .moved;
+      assumed = b;
+      fin = e .fin;
+      elicit = e .elicit;
+      prompted = e .prompted;
     }
 
 -- a final message with its ladder moved, still kept or not

@@ -50,7 +50,15 @@ pub fn delegate(ep: Epoch, workers: bool, log: &mut [u64; 768], len: usize) -> u
         } else {
             if ep.ids.lease.some {
                 let floor = ep.floor;
-                events::delegate(log, len, ep.tag, ep.ids.transport, ep.ids.lease.index, ep.session, floor)
+                events::delegate(
+                    log,
+                    len,
+                    ep.tag,
+                    ep.ids.transport,
+                    ep.ids.lease.index,
+                    ep.session,
+                    floor,
+                )
             } else {
                 len
             }

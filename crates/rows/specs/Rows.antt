@@ -11,7 +11,7 @@ use Rattle.ladder.specs.declared.Took.{Took}
 use Rattle.ladder.specs.declared.Ladder.{Ladder}
 use Rattle.ladder.specs.Ladder.{takeOf}
 use Rattle.settings.specs.declared.Config.{Config}
-use Rattle.params.specs.Params.{valueOr} 
+use Rattle.params.specs.Params.{valueOr}
 use Rattle.params.specs.Params.{graceOf as graceCap}
 use Rattle.epoch.specs.declared.Drain.{Drain}
 use Rattle.epoch.specs.declared.MayEpoch.{MayEpoch}
@@ -165,12 +165,23 @@ resendDue c holds young messages now =
 unfoldable pub abandonedMem : Memory → Config → ℕ → ℕ → Memory
 abandonedMem m cfg now extra =
     record {
-      «peer_epoch» = m .«peer_epoch»; «peer_k» = m .«peer_k»; jitter = m .jitter; damp = m .damp;
+      «peer_epoch» = m .«peer_epoch»;
+      «peer_k» = m .«peer_k»;
+      jitter = m .jitter;
+      damp = m .damp;
       backoff = at (laterOf now (backoffOf (least (m .abandons + 1) 255 - 1) (cfg .check) (cfg .hold) + extra * 1000));
       abandons = least (m .abandons + 1) 255;
-      «last_rx» = m .«last_rx»; «rx_cur» = m .«rx_cur»; «sent_data» = m .«sent_data»; silence = m .silence;
-      «link_since» = m .«link_since»; «last_cutover» = m .«last_cutover»; «hs_rtt» = m .«hs_rtt»; srtt = m .srtt;
-      «setup_rto» = m .«setup_rto»; reachable = m .reachable; due = m .due
+      «last_rx» = m .«last_rx»;
+      «rx_cur» = m .«rx_cur»;
+      «sent_data» = m .«sent_data»;
+      silence = m .silence;
+      «link_since» = m .«link_since»;
+      «last_cutover» = m .«last_cutover»;
+      «hs_rtt» = m .«hs_rtt»;
+      srtt = m .srtt;
+      «setup_rto» = m .«setup_rto»;
+      reachable = m .reachable;
+      due = m .due;
     }
 
 unfoldable pub expireDue : Cycle → Memory → Config → Bool → ℕ → ℕ → FailStep

@@ -165,7 +165,14 @@ fn sends(p: PendI, send: bool, grace: u64, time: u64) -> bool
 }
 
 // A probe's events, and the rung's prompt under the current epoch.
-fn probe_out(some: bool, msg: u64, tag: u64, current: u64, log: &mut [u64; 768], len: usize) -> usize
+fn probe_out(
+    some: bool,
+    msg: u64,
+    tag: u64,
+    current: u64,
+    log: &mut [u64; 768],
+    len: usize,
+) -> usize
     ensures { λ r. ⌜ at r (now (log .exit)) ≡ logged (at len (now (log .entry))) (only some (Send msg 4) ++ (Prompt tag ∷ Prompt current ∷ [])) ⌝ }
 {
     if some {
@@ -179,7 +186,15 @@ fn probe_out(some: bool, msg: u64, tag: u64, current: u64, log: &mut [u64; 768],
 }
 
 // A probe rung that was taken.
-fn probe_taken(c: Cycle, t: Took, grace: u64, time: u64, current: u64, log: &mut [u64; 768], len: usize) -> Cycled
+fn probe_taken(
+    c: Cycle,
+    t: Took,
+    grace: u64,
+    time: u64,
+    current: u64,
+    log: &mut [u64; 768],
+    len: usize,
+) -> Cycled
     ensures { λ r. ⌜ (r .cycle ≡ probing c t grace time current .cycle) × (at (r .len) (now (log .exit)) ≡ logged (at len (now (log .entry))) (probing c t grace time current .out)) ⌝ }
 {
     let mut p = c.pendi;
@@ -192,7 +207,10 @@ fn probe_taken(c: Cycle, t: Took, grace: u64, time: u64, current: u64, log: &mut
     let mut c2 = c;
     if sends(p, t.send, grace, time) {
         let n = probe_out(p.fin.some, p.fin.msg, p.ep.tag, current, log, len);
-        let w = When { some: true, at: time };
+        let w = When {
+            some: true,
+            at: time,
+        };
         p.probed = w;
         p.stayed = false;
         c2.pendi = p;
@@ -205,7 +223,16 @@ fn probe_taken(c: Cycle, t: Took, grace: u64, time: u64, current: u64, log: &mut
 }
 
 // A probe or keepalive rung of a completed own attempt.
-pub fn probe_due(c: Cycle, cur: bool, current: u64, grace: u64, tag: u64, time: u64, log: &mut [u64; 768], len: usize) -> Cycled
+pub fn probe_due(
+    c: Cycle,
+    cur: bool,
+    current: u64,
+    grace: u64,
+    tag: u64,
+    time: u64,
+    log: &mut [u64; 768],
+    len: usize,
+) -> Cycled
     ensures { λ r. ⌜ (r .cycle ≡ probeDue c cur current grace tag time .cycle) × (at (r .len) (now (log .exit)) ≡ logged (at len (now (log .entry))) (probeDue c cur current grace tag time .out)) ⌝ }
 {
     let own = is_own(c, tag);
@@ -303,7 +330,14 @@ pub fn fin_due(cur: MayEpoch, tag: u64, time: u64, log: &mut [u64; 768], len: us
 }
 
 // A prompt repeat taken.
-fn elicit_taken(cur: MayEpoch, t: Took, tag: u64, time: u64, log: &mut [u64; 768], len: usize) -> Kept
+fn elicit_taken(
+    cur: MayEpoch,
+    t: Took,
+    tag: u64,
+    time: u64,
+    log: &mut [u64; 768],
+    len: usize,
+) -> Kept
     ensures { λ r. ⌜ (r .cur ≡ elicitTaken cur t tag time .cur) × ((at (r .len) (now (log .exit)) ≡ logged (at len (now (log .entry))) (elicitTaken cur t tag time .out)) × (r .due ≡ elicitTaken cur t tag time .due)) ⌝ }
 {
     let n = events::prompt(log, len, tag);
@@ -364,7 +398,15 @@ fn first_kind(messages: u64) -> u64
 
 // A resend rung taken. `holds`: while opening, a larger node with a candidate holds a young resend
 // back; the rung is taken all the same.
-fn resend_taken(c: Cycle, t: Took, holds: bool, young: u64, messages: u64, log: &mut [u64; 768], len: usize) -> Cycled
+fn resend_taken(
+    c: Cycle,
+    t: Took,
+    holds: bool,
+    young: u64,
+    messages: u64,
+    log: &mut [u64; 768],
+    len: usize,
+) -> Cycled
     ensures { λ r. ⌜ (r .cycle ≡ resendTaken c t holds young messages .cycle) × (at (r .len) (now (log .exit)) ≡ logged (at len (now (log .entry))) (resendTaken c t holds young messages .out)) ⌝ }
 {
     let moved = t.ladder;
@@ -387,7 +429,15 @@ fn resend_taken(c: Cycle, t: Took, holds: bool, young: u64, messages: u64, log: 
 }
 
 // A resend rung of the own attempt.
-pub fn resend_due(c: Cycle, holds: bool, young: u64, messages: u64, time: u64, log: &mut [u64; 768], len: usize) -> Cycled
+pub fn resend_due(
+    c: Cycle,
+    holds: bool,
+    young: u64,
+    messages: u64,
+    time: u64,
+    log: &mut [u64; 768],
+    len: usize,
+) -> Cycled
     ensures { λ r. ⌜ (r .cycle ≡ resendDue c holds young messages time .cycle) × (at (r .len) (now (log .exit)) ≡ logged (at len (now (log .entry))) (resendDue c holds young messages time .out)) ⌝ }
 {
     if and(c.kind == 1, time < c.init.deadline) {
@@ -426,7 +476,16 @@ fn one_more(n: u8) -> u8
 }
 
 // The own attempt's deadline. `alone`: while opening with no candidate left, the link ends.
-pub fn expire_due(c: Cycle, m: Memory, cfg: Config, alone: bool, time: u64, extra: u32, log: &mut [u64; 768], len: usize) -> Failed
+pub fn expire_due(
+    c: Cycle,
+    m: Memory,
+    cfg: Config,
+    alone: bool,
+    time: u64,
+    extra: u32,
+    log: &mut [u64; 768],
+    len: usize,
+) -> Failed
     ensures { λ r. ⌜ (r .cycle ≡ expireDue c m cfg alone time extra .cycle) × ((r .mem ≡ expireDue c m cfg alone time extra .mem) × ((at (r .len) (now (log .exit)) ≡ logged (at len (now (log .entry))) (expireDue c m cfg alone time extra .out)) × (r .ends ≡ expireDue c m cfg alone time extra .ends))) ⌝ }
 {
     if and(c.kind == 1, c.init.deadline <= time) {
@@ -437,11 +496,26 @@ pub fn expire_due(c: Cycle, m: Memory, cfg: Config, alone: bool, time: u64, extr
         let n = retire::abandon(a, 4, log, len);
         if alone {
             let n2 = events::teardown(log, n, 1);
-            Failed { cycle: c2, mem: m2, len: n2, ends: true }
+            Failed {
+                cycle: c2,
+                mem: m2,
+                len: n2,
+                ends: true,
+            }
         } else {
-            Failed { cycle: c2, mem: m2, len: n, ends: false }
+            Failed {
+                cycle: c2,
+                mem: m2,
+                len: n,
+                ends: false,
+            }
         }
     } else {
-        Failed { cycle: c, mem: m, len: len, ends: false }
+        Failed {
+            cycle: c,
+            mem: m,
+            len: len,
+            ends: false,
+        }
     }
 }

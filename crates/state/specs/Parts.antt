@@ -2,7 +2,6 @@
 use Prim.Native.Nat.{ℕ}
 use mathlib.Core.Bool.{Bool, true, false}
 use mathlib.Core.List.{List, [], _∷_, _++_, map}
-use lib.ListN.{take}
 use Rattle.time.specs.Pick.{pick}
 use Rattle.ladder.specs.declared.Ladder.{Ladder}
 use Rattle.epoch.specs.declared.Epoch.{Epoch}
@@ -64,7 +63,3 @@ allLadders (e ∷ l) = epochLadders e ++ allLadders l
 -- every ladder that stands in the state
 unfoldable pub laddersOf : State → List Ladder
 laddersOf s = cycleLadders (s .cycle) ++ allLadders (epochsOf s)
-
--- the arrival numbers of the candidates that are held
-unfoldable pub seqsOf : State → List ℕ
-seqsOf s = take (s .cands .len) (s .cands .seq)

@@ -3,20 +3,18 @@ use Prim.Native.Nat.{ℕ, zero, suc, _+_, _-_, _*_, _/_, _%_, _^_, _≤_, _<_}
 use mathlib.Core.Bool.{Bool, true, false, cond}
 use mathlib.Core.Path.{_≡_, refl, sym, _∙_, ap, subst}
 use mathlib.Core.List.{List, [], _∷_, _++_}
-use native.Mathlib.Numerals.{add-one, sub-one}
-use native.Mathlib.Nat.{le-refl, le-trans, not-suc-le-zero, pow-succ', one-le-pow, pow-le-pow-right}
+use native.Mathlib.Numerals.{add-one}
+use native.Mathlib.Nat.{le-refl, le-trans, le-antisymm}
 use native.Mathlib.Omega.{arith}
 use lib.ListN.{length, getD, take, drop, length-drop, drop-of-length-le}
-use lib.Seq.{drop-cons, take-suc}
+use lib.Seq.{drop-cons, take-suc, take-all}
 use lib.Dec.{T, leb, eqb}
-use borrow.Author.Tests.{le-leb, lt-leb, leb-true, leb-false, lt-ltb, le-ltb, eq-eqb, eqb-true}
-use Rattle.io.specs.Digits.{digits, glyph, Fewest}
-use Rattle.text.specs.Outputs.{fits, written, writtenTo, held, heldTo, decimal}
+use borrow.Author.Tests.{le-leb, lt-leb, leb-true, leb-false, lt-ltb, le-ltb, eq-eqb, ne-eqb, eqb-true}
 use Rattle.text.specs.declared.field.Field.{Field}
 use Rattle.bytes.specs.Bytes.{indexOf, indexAfter}
-use Rattle.text.specs.Fields.{fieldEnd, found, absent, fieldAt, count, one}
+use Rattle.text.specs.Fields.{fieldEnd, found, absent, fieldAt, count, one, ordinalOf, behind}
 use Rattle.text.specs.Scans.{same, bytesOf, none, placeFrom, placeOf}
-use Rattle.text.specs.Numbers.{isDigit, allDigits, valueFrom}
+use Rattle.text.specs.Numbers.{all, valueFrom}
 
 pub index-after-le : (t : Bool) (k n : ℕ) → k ≤ n → indexAfter t k ≤ suc n
 unfolding indexAfter
@@ -73,9 +71,9 @@ pub same-is : (a b : List ℕ) (r : Bool) → (r ≡ true → a ≡ b) → (a �
 same-is a b true p q = rw (p refl) (same-refl b)
 same-is a b false p q = other (same a b) refl
   where
-  other : (t : Bool) → same a b ≡ t → t ≡ false
-  other true e = sym (q (same-eq a b e))
-  other false e = refl
+    other : (t : Bool) → same a b ≡ t → t ≡ false
+    other true e = sym (q (same-eq a b e))
+    other false e = refl
 
 -- the place of w is its place among the fields from `at` on, of which the first has place n
 abbrev pub Rest : List ℕ → List ℕ → ℕ → ℕ → Type 0
@@ -107,7 +105,7 @@ module _ (words w : List ℕ) (at n : ℕ) (f : Field) (e : f ≡ fieldAt words 
     place-here s = sym (rest .2 .1 .1 ∙ from-here (rest .2 .0) (rest .2 .1 .0) s)
 
     from-next : (k : ℕ) → length words < k + at → same (bytesOf words f) w ≡ false
-      → (j : ℕ) × ((length words < j + f .next) × (placeFrom k words at n w ≡ placeFrom j words (f .next) (n + 1) w))
+        → (j : ℕ) × ((length words < j + f .next) × (placeFrom k words at n w ≡ placeFrom j words (f .next) (n + 1) w))
     unfolding placeFrom
     from-next zero l s = absurd (past-all l)
     from-next (suc k) l s = let x = field-within words at f e h in (k, (omega arith, rw (← e, h, s)))
@@ -133,22 +131,48 @@ unfolding valueFrom
 value-le v [] = le-refl v
 value-le v (b ∷ bs) = le-trans (omega arith) (value-le (10 * v + (b - 48)) bs)
 
+module _ (line : List ℕ) (at i n : ℕ) (e : n ≡ 1 + count 32 (take i line)) where
+  pub ordinal-here : i ≤ at → at ≤ i → i ≤ length line → n ≡ ordinalOf line at
+  unfolding ordinalOf
+  ordinal-here h k l =
+      let p : i ≡ at = le-antisymm h k in
+      rw (← p, le-ltb (length line) i l) (omega arith)
+
+  pub ordinal-past : length line ≤ i → i < at → n + 1 ≡ ordinalOf line at
+  unfolding ordinalOf
+  ordinal-past l h =
+      let p : take i line ≡ take at line = take-all i line l ∙ sym (take-all at line (omega arith)) in
+      rw (← p, lt-ltb (length line) at (omega arith)) (omega arith)
+
 module _ (s : List ℕ) (i : ℕ) where
   pub count-step : (b : ℕ) → i < length s → count b (take (i + 1) s) ≡ count b (take i s) + one (eqb (getD s i 0) b)
   unfolding count
   count-step b h = rw (add-one, take-suc s i 0) (count-append b (take i s) (getD s i 0 ∷ []) ∙ omega arith)
 
-  pub digits-step : i < length s → isDigit (getD s i 0) ≡ true → allDigits (drop i s) ≡ allDigits (drop (i + 1) s)
-  unfolding allDigits
-  digits-step h e = rw (add-one, drop-cons s i 0, e)
+  pub behind-step : (b n : ℕ) → (n ≡ 0 → ⊥) → i < length s → i + behind b n (drop i s) ≡ i + 1 + behind b (n - one (eqb (getD s i 0) b)) (drop (i + 1) s)
+  unfolding behind
+  behind-step b n p h = rw (drop-cons s i 0 h, ne-eqb n 0 p, add-one i) (omega arith)
 
-  pub digits-stop : i < length s → isDigit (getD s i 0) ≡ false → allDigits (drop i s) ≡ false
-  unfolding allDigits
-  digits-stop h e = rw (drop-cons s i 0, e)
+  pub behind-none : (b n : ℕ) → n ≡ 0 → i < length s → i + behind b n (drop i s) ≡ i
+  unfolding behind
+  behind-none b n e h = rw (drop-cons s i 0 h, eq-eqb n 0 e) (omega arith)
 
-  pub digits-done : length s ≤ i → allDigits (drop i s) ≡ true
-  unfolding allDigits
-  digits-done h = rw (drop-of-length-le s {i = i} h)
+  pub behind-done : (b n : ℕ) → length s ≤ i → i + behind b n (drop i s) ≡ i
+  unfolding behind
+  behind-done b n h = rw (drop-of-length-le s {i = i} h) (omega arith)
+
+  module _ (p : ℕ → Bool) where
+    pub all-step : i < length s → p (getD s i 0) ≡ true → all p (drop i s) ≡ all p (drop (i + 1) s)
+    unfolding all
+    all-step h e = rw (add-one, drop-cons s i 0, e)
+
+    pub all-stop : i < length s → p (getD s i 0) ≡ false → all p (drop i s) ≡ false
+    unfolding all
+    all-stop h e = rw (drop-cons s i 0, e)
+
+    pub all-done : length s ≤ i → all p (drop i s) ≡ true
+    unfolding all
+    all-done h = rw (drop-of-length-le s {i = i} h)
 
   pub value-step : (v : ℕ) → i < length s → valueFrom v (drop i s) ≡ valueFrom (10 * v + (getD s i 0 - 48)) (drop (i + 1) s)
   unfolding valueFrom
@@ -161,51 +185,3 @@ module _ (s : List ℕ) (i : ℕ) where
   -- what one digit more comes to is no more than the whole
   pub value-more : (v : ℕ) → i < length s → 10 * v + (getD s i 0 - 48) ≤ valueFrom v (drop i s)
   value-more v h = rw (value-step v h) (value-le (10 * v + (getD s i 0 - 48)) (drop (i + 1) s))
-
--- a test that no sum of the code wraps in
-pub leb-sub : (n at len : ℕ) → at ≤ len → leb n (len - at) ≡ leb (at + n) len
-leb-sub n at len h = by (leb n (len - at)) refl
-  where
-  by : (t : Bool) → leb n (len - at) ≡ t → t ≡ leb (at + n) len
-  by true e = sym (le-leb (at + n) len (omega (arith, leb-true n (len - at) e)))
-  by false e = sym (lt-leb (at + n) len (omega (arith, leb-false n (len - at) e)))
-
--- what a buffer holds once s is put, by whether s fits
-module _ (d : List ℕ) (at : ℕ) (s : List ℕ) where
-  pub held-behind : fits d at s ≡ true → (writtenTo d at s ≡ heldTo d at s) × (written d at s ≡ held d at s)
-  unfolding held heldTo writtenTo
-  held-behind e = (rw e (omega (arith, leb-true (at + length s) (length d) e)), rw e)
-
-  pub held-front : fits d at s ≡ false → length s ≤ length d → (writtenTo d 0 s ≡ heldTo d at s) × (written d 0 s ≡ held d at s)
-  unfolding held heldTo writtenTo
-  held-front e h = let f : fits d 0 s ≡ true = le-leb (0 + length s) (length d) (omega arith) in (rw (e, f) (omega arith), rw (e, f))
-
-  pub held-apart : fits d at s ≡ false → length d < length s → (0 ≡ heldTo d at s) × (d ≡ held d at s)
-  unfolding held heldTo
-  held-apart e h = let f : fits d 0 s ≡ false = lt-leb (0 + length s) (length d) (omega arith) in (rw (e, f), rw (e, f))
-
--- a number as `io::decimal` spells it, in the fewest digits
-fewest : (k r n : ℕ) → r ≤ k → Fewest 10 1 n r → digits 10 r n ≡ decimal k n
-unfolding decimal
-fewest k zero n h f = absurd (not-suc-le-zero (f .0))
-fewest zero (suc r) n h f = absurd (not-suc-le-zero h)
-fewest (suc k) (suc zero) n h f =
-    let l : n < 10 = f .1 in
-    let e : n % 10 ≡ n = omega arith in
-    simp (lt-ltb n 10 l, e)
-fewest (suc k) (suc (suc r)) n h f =
-    let upper : n < 10 * 10 ^ suc r = rw pow-succ' at (f .1) in
-    let lower : 10 * 10 ^ r ≤ n = rw (sub-one, pow-succ') at (f .2 (omega arith)) in
-    let one≤ : 1 ≤ 10 ^ r = one-le-pow r 10 (omega arith) in
-    let rest : digits 10 (suc r) (n / 10) ≡ decimal k (n / 10) = fewest k (suc r) (n / 10) (omega arith) (omega arith, omega arith, λ q. rw sub-one (omega arith)) in
-    simp (le-ltb n 10 (omega arith), lt-ltb (n % 10) 10 (omega arith), rest)
-
-pub spelled : (n r : ℕ) → n < 2 ^ 64 → Fewest 10 1 n r → digits 10 r n ≡ decimal 20 n
-spelled n r l f = fewest 20 r n (under (leb r 20) refl) f
-  where
-  under : (t : Bool) → leb r 20 ≡ t → r ≤ 20
-  under true e = leb-true r 20 e
-  under false e =
-      let h : 20 < r = leb-false r 20 e in
-      let p : 10 ^ 20 ≤ 10 ^ (r - 1) = pow-le-pow-right {n = 10} (omega arith) {i = 20} {j = r - 1} (omega arith) in
-      omega (arith, f .2 (omega arith))

@@ -1,2 +1,2 @@
 mod Laws
-mod Lines
+mod Signs

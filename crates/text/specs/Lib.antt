@@ -1,5 +1,4 @@
 pub mod Fields
 pub mod Numbers
 pub mod Scans
-pub mod Outputs
-pub mod Inputs
+pub mod Signs

@@ -31,9 +31,13 @@ notWord = 6
 abbrev pub isDigit : ℕ → Bool
 isDigit b = cond (ltb b 48) false (leb b 57)
 
-unfoldable pub allDigits : List ℕ → Bool
-allDigits [] = true
-allDigits (b ∷ bs) = cond (isDigit b) (allDigits bs) false
+-- each element passes a test
+unfoldable pub all : (ℕ → Bool) → List ℕ → Bool
+all p [] = true
+all p (b ∷ bs) = cond (p b) (all p bs) false
+
+abbrev pub allDigits : List ℕ → Bool
+allDigits s = all isDigit s
 
 -- the value of digits that follow those of value v
 unfoldable pub valueFrom : ℕ → List ℕ → ℕ

@@ -4,14 +4,18 @@ use mathlib.Core.Bool.{Bool, true, false, cond}
 use mathlib.Core.List.{List, [], _∷_}
 use lib.ListN.{length, take, drop}
 use lib.Dec.{leb, eqb}
+use lib.IntN.{pos}
 use Rattle.text.specs.declared.field.Field.{Field}
 use Rattle.text.specs.declared.number.Number.{Number}
+use Rattle.text.specs.declared.signed.Signed.{Signed}
 use Rattle.text.specs.declared.scan.Scan.{Scan}
+use Rattle.text.specs.declared.scan.ReadSigned.{ReadSigned}
 use Rattle.text.specs.declared.scan.Read.{Read}
 use Rattle.text.specs.declared.scan.Accepted.{Accepted}
 use Rattle.text.specs.declared.scan.Place.{Place}
 use Rattle.text.specs.declared.scan.Word.{Word}
 use Rattle.text.specs.Fields.{fieldAt}
+use Rattle.text.specs.Signs.{signedOf}
 use Rattle.text.specs.Numbers.{noFault, missing, extra, notWord, numberOf}
 
 abbrev pub scanAt : ℕ → ℕ → Scan
@@ -38,6 +42,20 @@ numberFrom line at most =
 -- a number from 0 to `most`
 abbrev pub numberAt : List ℕ → Scan → ℕ → Read
 numberAt line c most = cond (eqb (c .fault) noFault) (numberFrom line (c .at) most) (stopped (c .at) (c .fault))
+
+abbrev pub movedSigned : ℕ → ℕ → Signed → ReadSigned
+movedSigned at next n =
+    cond (eqb (n .fault) noFault) (record { scan = scanAt next noFault; value = n .value }) (record { scan = scanAt at (n .fault); value = pos 0 })
+
+unfoldable pub signedFrom : List ℕ → ℕ → ReadSigned
+signedFrom line at =
+    cond (fieldAt line at .some)
+    (movedSigned at (fieldAt line at .next) (signedOf (bytesOf line (fieldAt line at))))
+    (record { scan = scanAt at missing; value = pos 0 })
+
+-- a number with a sign
+abbrev pub signedAt : List ℕ → Scan → ReadSigned
+signedAt line c = cond (eqb (c .fault) noFault) (signedFrom line (c .at)) (record { scan = c; value = pos 0 })
 
 -- the same bytes
 unfoldable pub same : List ℕ → List ℕ → Bool

@@ -1,10 +1,10 @@
 // Where the fields of a line begin and end.
 ghost use mathlib.Core.Path.{_≡_};
 ghost use Prim.Native.Nat.{_+_};
-ghost use lib.ListN.{take, drop};
+ghost use lib.ListN.{drop};
 ghost use lib.Dec.{eqb};
 ghost use Rattle.bytes.specs.Bytes.{indexOf};
-ghost use Rattle.text.specs.Fields.{fieldAt, one, count};
+ghost use Rattle.text.specs.Fields.{fieldAt, one, ordinalOf, behind as behindOf};
 
 // A field lies from `start` to `end`; `next` is where the field after it starts.
 pub struct Field {
@@ -50,9 +50,9 @@ pub fn next_field(line: &[u8], at: usize) -> Field
     }
 }
 
-// The number, from 1, of the field that starts at `at`.
+// The number, from 1, of the field that starts at `at`, or would start there behind the end.
 pub fn ordinal(line: &[u8], at: usize) -> usize
-    ensures { λ r. ⌜ r ≡ 1 + count 32 (take at (now (line .entry))) ⌝ }
+    ensures { λ r. ⌜ r ≡ ordinalOf (now (line .entry)) at ⌝ }
 {
     let mut n = 1;
     let mut i = 0;
@@ -60,14 +60,32 @@ pub fn ordinal(line: &[u8], at: usize) -> usize
         if at <= i {
             return n;
         }
-        n += one_if_space(line[i]);
+        n += one_if(line[i], b' ');
         i += 1;
     }
-    n
+    if i < at { n + 1 } else { n }
 }
 
-fn one_if_space(b: u8) -> usize
-    ensures { λ r. ⌜ r ≡ one (eqb b 32) ⌝ }
+// The index behind the byte `b` of `s` that is the `n`th, from 1; 0 for the byte 0, and the end of
+// `s` where there are fewer.
+pub fn behind(s: &[u8], b: u8, n: usize) -> usize
+    ensures { λ r. ⌜ r ≡ behindOf b n (now (s .entry)) ⌝ }
 {
-    if b == b' ' { 1 } else { 0 }
+    let mut left = n;
+    let mut i = 0;
+    while i < s.len() {
+        if left == 0 {
+            return i;
+        }
+        left -= one_if(s[i], b);
+        i += 1;
+    }
+    i
+}
+
+// 1 where `x` is `b`, else 0.
+fn one_if(x: u8, b: u8) -> usize
+    ensures { λ r. ⌜ r ≡ one (eqb x b) ⌝ }
+{
+    if x == b { 1 } else { 0 }
 }

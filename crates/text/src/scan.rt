@@ -2,11 +2,13 @@
 // so a caller tests the fault once, after the last field.
 ghost use mathlib.Core.Path.{_≡_};
 ghost use Rattle.text.specs.Numbers.{noFault};
-ghost use Rattle.text.specs.Scans.{scanAt, stopped as Scans·stopped, moved as Scans·moved, numberFrom, numberAt, acceptFrom, acceptAt, wordFrom, wordAt, worded as wordedOf, placeOf, optionalAt, endFrom, endAt};
+ghost use Rattle.text.specs.Scans.{scanAt, stopped as Scans·stopped, moved as Scans·moved, numberFrom, numberAt, movedSigned, signedFrom, signedAt, acceptFrom, acceptAt, wordFrom, wordAt, worded as wordedOf, placeOf, optionalAt, endFrom, endAt};
 use crate::field::next_field;
 use crate::number;
 use crate::number::Number;
 use crate::number::parse;
+use crate::signed::Signed;
+use crate::signed::parse_signed;
 
 pub struct Scan {
     pub at: usize,
@@ -18,6 +20,12 @@ pub struct Read {
     pub scan: Scan,
     pub some: bool,
     pub value: u64,
+}
+
+// A number with a sign that was read, 0 where there is none, and the scan past it.
+pub struct ReadSigned {
+    pub scan: Scan,
+    pub value: i32,
 }
 
 // Whether the next field was the word, and then the scan past it.
@@ -56,6 +64,19 @@ impl Scan {
             return number_at(line, self.at, most);
         }
         stopped(self.at, self.fault)
+    }
+
+    // Reads a number from -2^31 to 2^31 - 1.
+    pub fn signed(self, line: &[u8]) -> ReadSigned
+        ensures { λ r. ⌜ r ≡ signedAt (now (line .entry)) self ⌝ }
+    {
+        if self.fault == number::NONE {
+            return signed_at(line, self.at);
+        }
+        ReadSigned {
+            scan: self,
+            value: 0,
+        }
     }
 
     // Reads a number, or `-` for none.
@@ -121,6 +142,36 @@ fn number_at(line: &[u8], at: usize, most: u64) -> Read
         return moved(at, f.next, parse(&line[start..end], most));
     }
     stopped(at, number::MISSING)
+}
+
+fn signed_at(line: &[u8], at: usize) -> ReadSigned
+    ensures { λ r. ⌜ r ≡ signedFrom (now (line .entry)) at ⌝ }
+{
+    let f = next_field(line, at);
+    if f.some {
+        let start = f.start;
+        let end = f.end;
+        return moved_signed(at, f.next, parse_signed(&line[start..end]));
+    }
+    ReadSigned {
+        scan: scan_at(at, number::MISSING),
+        value: 0,
+    }
+}
+
+fn moved_signed(at: usize, next: usize, n: Signed) -> ReadSigned
+    ensures { λ r. ⌜ r ≡ movedSigned at next n ⌝ }
+{
+    if n.fault == number::NONE {
+        return ReadSigned {
+            scan: scan_at(next, number::NONE),
+            value: n.value,
+        };
+    }
+    ReadSigned {
+        scan: scan_at(at, n.fault),
+        value: 0,
+    }
 }
 
 fn accept_at(line: &[u8], at: usize, word: &[u8]) -> Accepted

@@ -1,5 +1,5 @@
-use mathlib.Core.Path.{_≡_, refl, _∙_, ap}
-use Rattle.candidates.specs.Held.{chosen, choosing, clearedOf, heldBy}
+use mathlib.Core.Path.{refl}
+use Rattle.candidates.specs.Held.{chosen, choosing, clearedOf}
 use Rattle.candidates.specs.Laws.{held-cleared}
 use Rattle.candidates.proofs.clear.Statement.{statement}
 use Rattle.candidates.proofs.clear.Tie as tie

@@ -1,4 +1,4 @@
-use mathlib.Core.Path.{_≡_, refl}
+-- Each array is moved by itself, and the count is one less.
 use borrow.Author.Needs.{needs}
 use native.Mathlib.Omega.{arith}
 use Rattle.candidates.specs.Held.{choosing}
@@ -64,9 +64,32 @@ sub-v c =
 returns : tie.Need-returns
 unfolding choosing
 returns c =
-    let s = c .before .before .before .before .before .before .before .before .before .before .before .before .before .before .before .before .before .before .before .before in
+    let c10 = c in
+    let c9 = c10 .before .before in
+    let c8 = c9 .before .before in
+    let c7 = c8 .before .before in
+    let c6 = c7 .before .before in
+    let c5 = c6 .before .before in
+    let c4 = c5 .before .before in
+    let c3 = c4 .before .before in
+    let c2 = c3 .before .before in
+    let c1 = c2 .before .before in
+    let s = c1 .before .before in
     λ i.
-    record { hs = c .before .before .before .before .before .before .before .before .before .before .before .before .before .before .before .before .before .before .drop-at .ensures i; msg1 = c .before .before .before .before .before .before .before .before .before .before .before .before .before .before .before .before .drop-at2 .ensures i; ack = c .before .before .before .before .before .before .before .before .before .before .before .before .before .before .drop-at3 .ensures i; carrier = c .before .before .before .before .before .before .before .before .before .before .before .before .drop-at4 .ensures i; route = c .before .before .before .before .before .before .before .before .before .before .drop-at5 .ensures i; born = c .before .before .before .before .before .before .before .before .drop-at6 .ensures i; deadline = c .before .before .before .before .before .before .drop-at7 .ensures i; bounded = c .before .before .before .before .drop-at8 .ensures i; bound = c .before .before .drop-at9 .ensures i; seq = c .drop-at10 .ensures i; len = length-others (s .args .i) (s .args .n) (s .pre .0) i; next = s .args .v .next }
+    record {
+      hs = c1 .drop-at .ensures i;
+      msg1 = c2 .drop-at2 .ensures i;
+      ack = c3 .drop-at3 .ensures i;
+      carrier = c4 .drop-at4 .ensures i;
+      route = c5 .drop-at5 .ensures i;
+      born = c6 .drop-at6 .ensures i;
+      deadline = c7 .drop-at7 .ensures i;
+      bounded = c8 .drop-at8 .ensures i;
+      bound = c9 .drop-at9 .ensures i;
+      seq = c10 .drop-at10 .ensures i;
+      len = length-others (s .args .i) (s .args .n) (s .pre .0) i;
+      next = s .args .v .next;
+    }
 
 pub dropped-spec : {M : Type 1} → statement M
 dropped-spec =

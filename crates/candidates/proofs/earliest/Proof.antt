@@ -1,19 +1,14 @@
 -- The least of the deadlines from place i on, and of those before it, is the least of all.
 use Prim.Native.Nat.{_≤_, _-_}
-use mathlib.Core.Path.{_≡_, refl, sym, _∙_, ap}
-use native.Mathlib.Omega.{arith}
+use mathlib.Core.Path.{_≡_, refl, sym, _∙_}
 use borrow.Author.Needs.{needs}
 use Rattle.time.specs.Lists.{fold}
 use Rattle.time.specs.Time.{at, none, soonerOf}
-use Rattle.candidates.specs.Held.{between, heldOf, earliestOf}
+use Rattle.candidates.specs.Held.{between, earliestOf}
 use Rattle.candidates.specs.Laws.{held-most}
 use Rattle.candidates.specs.Places.{fold-next, fold-end}
 use Rattle.candidates.proofs.earliest.Statement.{statement}
 use Rattle.candidates.proofs.earliest.Tie as tie
-use Rattle.candidates.proofs.earliest.Lts as lts
-use Rattle.candidates.proofs.earliest.Reads as reads
-use Rattle.candidates.proofs.held.Reads as held-reads
-use Rattle.time.proofs.When.sooner.Reads as sooner-reads
 
 abbrev Inv-loop : tie.InvT-loop
 Inv-loop deadlines n m w₀ i₀ w i = (m ≤ 32) × (fold (λ b t. soonerOf b (at t)) none (between 0 m deadlines) ≡ fold (λ b t. soonerOf b (at t)) w (between i m deadlines))

@@ -1,12 +1,9 @@
-use Prim.Native.Nat.{_≤_, _<_}
-use mathlib.Core.Path.{_≡_, refl, sym, _∙_, ap}
+use Prim.Native.Nat.{_≤_}
+use mathlib.Core.Path.{sym, _∙_, ap}
 use native.Mathlib.Omega.{arith}
 use borrow.Author.Needs.{needs}
-use borrow.Author.Tests.{lt-ltb, le-ltb}
 use lib.Dec.{leb}
-use lib.ListN.{getD}
-use Rattle.candidates.specs.Held.{heldOf, spotOf}
-use Rattle.candidates.specs.Laws.{held-most, spot-found, expired-at}
+use Rattle.candidates.specs.Laws.{held-most, expired-here, expired-none}
 use Rattle.candidates.proofs.is_expired.Statement.{statement}
 use Rattle.candidates.proofs.is_expired.Tie as tie
 
@@ -26,21 +23,15 @@ read-requires c κs =
 returns : tie.Need-returns
 returns c =
     let h = c .before .before .before .before .before .before .before in
-    let v = h .before .args .v in
-    let s = h .before .args .seq in
-    let p : h .held .result ≡ heldOf (v .len) = h .held .ensures in
-    let q : c .before .before .before .before .find .result ≡ spotOf v s = spot-found v s _ _ p (c .before .before .before .before .find .ensures) in
-    ap (λ d. leb d (h .before .args .now)) (c .read .ensures ∙ ap (λ i. getD (v .deadline) i 0) q)
-    ∙ sym (expired-at v s (h .before .args .now) ∙ rw (lt-ltb (spotOf v s) (heldOf (v .len)) (rw (q, p) at (c .before .before .before .if1 .taken))))
+    let a = h .before .args in
+    ap (λ d. leb d (a .now)) (c .read .ensures)
+    ∙ sym (expired-here (a .v) (a .seq) _ _ (h .held .ensures) (c .before .before .before .before .find .ensures) (a .now) (c .before .before .before .if1 .taken))
 
 returns-2 : tie.Need-returns-2
 returns-2 c =
     let h = c .before .before .before .before in
-    let v = h .before .args .v in
-    let s = h .before .args .seq in
-    let p : h .held .result ≡ heldOf (v .len) = h .held .ensures in
-    let q : c .before .find .result ≡ spotOf v s = spot-found v s _ _ p (c .before .find .ensures) in
-    sym (expired-at v s (h .before .args .now) ∙ rw (le-ltb (spotOf v s) (heldOf (v .len)) (rw (q, p) at (c .if1 .left))))
+    let a = h .before .args in
+    sym (expired-none (a .v) (a .seq) _ _ (h .held .ensures) (c .before .find .ensures) (a .now) (c .if1 .left))
 
 pub is-expired-spec : {M : Type 1} → statement M
 is-expired-spec = tie.close (tie.spec held-requires find-requires read-requires returns returns-2)

@@ -1,4 +1,5 @@
-use mathlib.Core.Path.{_≡_, refl, _∙_, ap}
+-- Each array keeps the same places, those whose birth is after the instant.
+use mathlib.Core.Path.{_≡_, _∙_, ap}
 use borrow.Author.Needs.{needs}
 use lib.ListN.{length}
 use Rattle.candidates.specs.Held.{heldBy, chosen, choosing, keptAfter, younger}
@@ -62,12 +63,36 @@ pack-requires-10 c κs =
 returns : tie.Need-returns
 unfolding keptAfter choosing
 returns c =
-    let h = c .before .before .before .before .before .before .before .before .before .before .before .before .before .before .before .before .before .before .before .before .before .before .before .before .before .before .before .before .before .before .before in
+    let c10 = c in
+    let c9 = c10 .before .before .before in
+    let c8 = c9 .before .before .before in
+    let c7 = c8 .before .before .before in
+    let c6 = c7 .before .before .before in
+    let c5 = c6 .before .before .before in
+    let c4 = c5 .before .before .before in
+    let c3 = c4 .before .before .before in
+    let c2 = c3 .before .before .before in
+    let c1 = c2 .before .before .before in
+    let h = c1 .before .before .before .before in
     let v = h .before .args .v in
     let t = h .before .args .t in
+    let m = ap (λ n. younger t n (v .born)) (h .held .ensures) in
     let e : _ ≡ keptAfter v t =
     λ i.
-    record { hs = (c .before .before .before .before .before .before .before .before .before .before .before .before .before .before .before .before .before .before .before .before .before .before .before .before .before .before .before .pack .ensures .1 ∙ ap (λ n. chosen (younger t n (v .born)) (v .hs)) (h .held .ensures)) i; msg1 = (c .before .before .before .before .before .before .before .before .before .before .before .before .before .before .before .before .before .before .before .before .before .before .before .before .pack2 .ensures .1 ∙ ap (λ n. chosen (younger t n (v .born)) (v .msg1)) (h .held .ensures)) i; ack = (c .before .before .before .before .before .before .before .before .before .before .before .before .before .before .before .before .before .before .before .before .before .pack3 .ensures .1 ∙ ap (λ n. chosen (younger t n (v .born)) (v .ack)) (h .held .ensures)) i; carrier = (c .before .before .before .before .before .before .before .before .before .before .before .before .before .before .before .before .before .before .pack4 .ensures .1 ∙ ap (λ n. chosen (younger t n (v .born)) (v .carrier)) (h .held .ensures)) i; route = (c .before .before .before .before .before .before .before .before .before .before .before .before .before .before .before .pack5 .ensures .1 ∙ ap (λ n. chosen (younger t n (v .born)) (v .route)) (h .held .ensures)) i; born = (c .before .before .before .before .before .before .before .before .before .before .before .before .pack6 .ensures .1 ∙ ap (λ n. chosen (younger t n (v .born)) (v .born)) (h .held .ensures)) i; deadline = (c .before .before .before .before .before .before .before .before .before .pack7 .ensures .1 ∙ ap (λ n. chosen (younger t n (v .born)) (v .deadline)) (h .held .ensures)) i; bounded = (c .before .before .before .before .before .before .pack8 .ensures .1 ∙ ap (λ n. chosen (younger t n (v .born)) (v .bounded)) (h .held .ensures)) i; bound = (c .before .before .before .pack9 .ensures .1 ∙ ap (λ n. chosen (younger t n (v .born)) (v .bound)) (h .held .ensures)) i; seq = (c .pack10 .ensures .1 ∙ ap (λ n. chosen (younger t n (v .born)) (v .seq)) (h .held .ensures)) i; len = (c .pack10 .ensures .0 ∙ ap (λ n. length (younger t n (v .born))) (h .held .ensures)) i; next = v .next } in
+    record {
+      hs = (c1 .pack .ensures .1 ∙ ap (λ ps. chosen ps (v .hs)) m) i;
+      msg1 = (c2 .pack2 .ensures .1 ∙ ap (λ ps. chosen ps (v .msg1)) m) i;
+      ack = (c3 .pack3 .ensures .1 ∙ ap (λ ps. chosen ps (v .ack)) m) i;
+      carrier = (c4 .pack4 .ensures .1 ∙ ap (λ ps. chosen ps (v .carrier)) m) i;
+      route = (c5 .pack5 .ensures .1 ∙ ap (λ ps. chosen ps (v .route)) m) i;
+      born = (c6 .pack6 .ensures .1 ∙ ap (λ ps. chosen ps (v .born)) m) i;
+      deadline = (c7 .pack7 .ensures .1 ∙ ap (λ ps. chosen ps (v .deadline)) m) i;
+      bounded = (c8 .pack8 .ensures .1 ∙ ap (λ ps. chosen ps (v .bounded)) m) i;
+      bound = (c9 .pack9 .ensures .1 ∙ ap (λ ps. chosen ps (v .bound)) m) i;
+      seq = (c10 .pack10 .ensures .1 ∙ ap (λ ps. chosen ps (v .seq)) m) i;
+      len = (c10 .pack10 .ensures .0 ∙ ap length m) i;
+      next = v .next;
+    } in
     (e, ap heldBy e ∙ held-kept v t)
 
 pub keep-born-after-spec : {M : Type 1} → statement M

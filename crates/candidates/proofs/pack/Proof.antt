@@ -1,7 +1,7 @@
 -- What is left to keep from place i on is what was to be kept.
-use Prim.Native.Nat.{ℕ, _≤_, _<_, _+_, _-_}
+use Prim.Native.Nat.{ℕ, _≤_, _+_, _-_}
 use mathlib.Core.Bool.{Bool}
-use mathlib.Core.Path.{_≡_, refl, sym, _∙_, ap}
+use mathlib.Core.Path.{_≡_, sym, _∙_, ap}
 use mathlib.Core.Logic.{⊎-elim}
 use mathlib.Core.List.{List}
 use native.Mathlib.Nat.{zero-add, add-zero}
@@ -14,8 +14,6 @@ use Rattle.candidates.specs.Held.{chosen, younger}
 use Rattle.candidates.specs.Places.{moved, moved-done, moved-all, keeping, keeping-in, keeping-out, keeping-end, keeping-all, packed-in}
 use Rattle.candidates.proofs.pack.Statement.{statement}
 use Rattle.candidates.proofs.pack.Tie as tie
-use Rattle.candidates.proofs.pack.Lts as lts
-use Rattle.candidates.proofs.pack.Reads as reads
 
 -- the test of a place
 abbrev test : ℕ → List ℕ → ℕ → Bool

@@ -1,16 +1,12 @@
 -- Whether a number stands twice from place i on is whether one stands twice.
-use Prim.Native.Nat.{_≤_, _-_}
+use Prim.Native.Nat.{_-_}
 use mathlib.Core.Path.{_≡_, refl, sym, _∙_}
-use native.Mathlib.Omega.{arith}
 use borrow.Author.Needs.{needs}
 use Rattle.candidates.specs.Held.{between}
 use Rattle.candidates.specs.Repeats.{repeated}
 use Rattle.candidates.specs.Places.{pair-here, pair-on, pair-none}
 use Rattle.candidates.proofs.pairs.Statement.{statement}
 use Rattle.candidates.proofs.pairs.Tie as tie
-use Rattle.candidates.proofs.pairs.Lts as lts
-use Rattle.candidates.proofs.pairs.Reads as reads
-use Rattle.candidates.proofs.find.Reads as find-reads
 
 abbrev Inv-loop : tie.InvT-loop
 Inv-loop a n i₀ i = repeated (between 0 n a) ≡ repeated (between i n a)

@@ -1,5 +1,5 @@
 -- Whether the rest rises from place i on is whether all rise.
-use Prim.Native.Nat.{_≤_, _-_}
+use Prim.Native.Nat.{_-_}
 use mathlib.Core.Path.{_≡_, sym, _∙_}
 use borrow.Author.Needs.{needs}
 use Rattle.candidates.specs.Held.{between}

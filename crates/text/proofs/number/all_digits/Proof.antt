@@ -5,12 +5,10 @@ use mathlib.Core.Path.{_≡_, refl, sym, _∙_}
 use native.Mathlib.Omega.{arith}
 use borrow.Author.Tests.{not-true, not-false}
 use lib.ListN.{length, drop}
-use Rattle.text.specs.Numbers.{allDigits}
-use Rattle.text.proofs.Laws.{digits-step, digits-stop, digits-done}
+use Rattle.text.specs.Numbers.{isDigit, allDigits}
+use Rattle.text.proofs.Laws.{all-step, all-stop, all-done}
 use Rattle.text.proofs.number.all_digits.Statement.{statement}
 use Rattle.text.proofs.number.all_digits.Tie as tie
-use Rattle.text.proofs.number.all_digits.Reads as reads
-use Rattle.text.proofs.number.all_digits.Lts as lts
 
 abbrev Inv-loop : tie.InvT-loop
 Inv-loop s i₀ i = (i ≤ length s) × (allDigits s ≡ allDigits (drop i s))
@@ -30,7 +28,7 @@ is-digit-requires c κs = tt
 returns : tie.Need-returns Inv-loop μ-loop
 returns c =
     let b = c .before .before .before .before in
-    sym (b .loop .inv .1 ∙ digits-stop (b .before .before .args .s .now) (b .loop .i) (c .before .before .before .loop-test .taken) (sym (c .before .is-digit .ensures) ∙ not-true _ (c .if1 .taken)))
+    sym (b .loop .inv .1 ∙ all-stop (b .before .before .args .s .now) (b .loop .i) isDigit (c .before .before .before .loop-test .taken) (sym (c .before .is-digit .ensures) ∙ not-true _ (c .if1 .taken)))
 
 add-i : tie.Need-add-i Inv-loop μ-loop
 add-i c = omega arith
@@ -41,10 +39,10 @@ loop-less c = omega arith
 loop-again : tie.Need-loop-again Inv-loop μ-loop
 loop-again c =
     let b = c .before .before .before .before in
-    (omega arith, b .loop .inv .1 ∙ digits-step (b .before .before .args .s .now) (b .loop .i) (c .before .before .before .loop-test .taken) (sym (c .before .is-digit .ensures) ∙ not-false _ (c .if1 .left)))
+    (omega arith, b .loop .inv .1 ∙ all-step (b .before .before .args .s .now) (b .loop .i) isDigit (c .before .before .before .loop-test .taken) (sym (c .before .is-digit .ensures) ∙ not-false _ (c .if1 .left)))
 
 returns-2 : tie.Need-returns-2 Inv-loop μ-loop
-returns-2 c = sym (c .before .loop .inv .1 ∙ digits-done (c .before .before .before .args .s .now) (c .before .loop .i) (c .loop-test .left))
+returns-2 c = sym (c .before .loop .inv .1 ∙ all-done (c .before .before .before .args .s .now) (c .before .loop .i) isDigit (c .loop-test .left))
 
 pub all-digits-spec : {M : Type 1} → statement M
 all-digits-spec =

@@ -8,10 +8,6 @@ use Rattle.text.specs.Numbers.{valueFrom}
 use Rattle.text.proofs.Laws.{value-step, value-more, value-done}
 use Rattle.text.proofs.number.value.Statement.{statement}
 use Rattle.text.proofs.number.value.Tie as tie
-use Rattle.text.proofs.number.value.Reads as reads
-use Rattle.text.proofs.number.value.Lts as lts
-use Rattle.text.proofs.number.digit.Reads as digit-reads
-use Rattle.text.proofs.number.too_large.Reads as too-large-reads
 
 abbrev Inv-loop : tie.InvT-loop
 Inv-loop s most v₀ i₀ v i = (i ≤ length s) × ((v ≤ most) × (valueFrom 0 s ≡ valueFrom v (drop i s)))
@@ -19,68 +15,55 @@ Inv-loop s most v₀ i₀ v i = (i ≤ length s) × ((v ≤ most) × (valueFrom 
 abbrev μ-loop : tie.MeasureT-loop
 μ-loop s most v₀ i₀ v i = length s - i
 
--- src/number.rt:73:5
 loop-holds : tie.Need-loop-holds Inv-loop μ-loop
 loop-holds c = (omega arith, (omega arith, refl))
 
--- src/number.rt:74:23
 shared-slice-read-digit : tie.Need-shared-slice-read-digit Inv-loop μ-loop
 shared-slice-read-digit c = omega arith
 
--- src/number.rt:74:13
 digit-requires : tie.Need-digit-requires Inv-loop μ-loop
 digit-requires c κs = tt
 
--- src/number.rt:76:13
 too-large-requires : tie.Need-too-large-requires Inv-loop μ-loop
 too-large-requires c κs = tt
 
--- src/number.rt:76:13
 returns : tie.Need-returns Inv-loop μ-loop
 returns c =
     let b = c .before .before .before .before .before in
     let s = b .before .before .args .s .now in
     let over : b .before .before .args .most < valueFrom 0 s =
-      omega (arith, b .loop .inv .1 .1, c .before .before .digit .ensures, value-more s (b .loop .i) (b .loop .v) (c .before .before .before .before .loop-test .taken)) in
+    omega (arith, b .loop .inv .1 .1, c .before .before .digit .ensures, value-more s (b .loop .i) (b .loop .v) (c .before .before .before .before .loop-test .taken)) in
     simp (lt-leb _ _ over, c .too-large .ensures)
 
--- src/number.rt:79:13
 too-large-requires-2 : tie.Need-too-large-requires-2 Inv-loop μ-loop
 too-large-requires-2 c κs = tt
 
--- src/number.rt:79:13
 returns-2 : tie.Need-returns-2 Inv-loop μ-loop
 returns-2 c =
     let b = c .before .before .before .before .before .before in
     let s = b .before .before .args .s .now in
     let over : b .before .before .args .most < valueFrom 0 s =
-      omega (arith, b .loop .inv .1 .1, c .before .before .before .digit .ensures, value-more s (b .loop .i) (b .loop .v) (c .before .before .before .before .before .loop-test .taken)) in
+    omega (arith, b .loop .inv .1 .1, c .before .before .before .digit .ensures, value-more s (b .loop .i) (b .loop .v) (c .before .before .before .before .before .loop-test .taken)) in
     simp (lt-leb _ _ over, c .too-large2 .ensures)
 
--- src/number.rt:81:13
 mul-v : tie.Need-mul-v Inv-loop μ-loop
 mul-v c = omega arith
 
--- src/number.rt:81:13
 add-v : tie.Need-add-v Inv-loop μ-loop
 add-v c = omega arith
 
--- src/number.rt:82:9
 add-i : tie.Need-add-i Inv-loop μ-loop
 add-i c = omega arith
 
--- src/number.rt:73:5
 loop-less : tie.Need-loop-less Inv-loop μ-loop
 loop-less c = omega arith
 
--- src/number.rt:73:5
 loop-again : tie.Need-loop-again Inv-loop μ-loop
 loop-again c =
     let b = c .before .before .before .before .before in
     let s = b .before .before .args .s .now in
     (omega arith, (omega arith, b .loop .inv .1 .1 ∙ rw (c .before .before .digit .ensures) (value-step s (b .loop .i) (b .loop .v) (c .before .before .before .before .loop-test .taken))))
 
--- src/number.rt:68:1
 returns-3 : tie.Need-returns-3 Inv-loop μ-loop
 returns-3 c =
     let b = c .before in

@@ -1,44 +1,33 @@
+-- `text::scan::accept_at` meets its contract. Assumes nothing.
 use Rattle.text.specs.Scans.{acceptFrom}
 use Rattle.text.proofs.Laws.{field-within, same-is}
 use borrow.Author.Needs.{needs}
 use Rattle.text.proofs.scan.accept_at.Statement.{statement}
 use Rattle.text.proofs.scan.accept_at.Tie as tie
-use Rattle.text.proofs.scan.accept_at.Reads as reads
-use Rattle.text.proofs.scan.accept_at.Lts as lts
-use Rattle.check.proofs.same.Reads as same-reads
-use Rattle.text.proofs.field.next_field.Reads as next-field-reads
 
--- src/scan.rt:107:9
 next-field-requires : tie.Need-next-field-requires
 next-field-requires c κs = search needs
 
--- src/scan.rt:111:24
 sub-same : tie.Need-sub-same
 sub-same c = field-within (c .before .before .before .before .args .line .now) (c .before .before .before .before .args .at) (c .before .next-field .result) (c .before .next-field .ensures) (c .if1 .taken) .0
 
--- src/scan.rt:111:24
 part-same-start : tie.Need-part-same-start
 part-same-start c = field-within (c .before .before .before .before .args .line .now) (c .before .before .before .before .args .at) (c .before .next-field .result) (c .before .next-field .ensures) (c .if1 .taken) .0
 
--- src/scan.rt:111:24
 part-same-end : tie.Need-part-same-end
 part-same-end c = field-within (c .before .before .before .before .args .line .now) (c .before .before .before .before .args .at) (c .before .next-field .result) (c .before .next-field .ensures) (c .if1 .taken) .1
 
--- src/scan.rt:111:12
 same-requires : tie.Need-same-requires
 same-requires c κs = search needs
 
--- src/scan.rt:112:13
 returns : tie.Need-returns
 unfolding acceptFrom
 returns c = simp (← c .before .before .before .before .next-field .ensures, c .before .before .before .if1 .taken, same-is _ _ _ (c .before .same .ensures .0) (c .before .same .ensures .1), c .if2 .taken)
 
--- src/scan.rt:104:1
 returns-2 : tie.Need-returns-2
 unfolding acceptFrom
 returns-2 c = simp (← c .before .before .before .before .next-field .ensures, c .before .before .before .if1 .taken, same-is _ _ _ (c .before .same .ensures .0) (c .before .same .ensures .1), c .if2 .left)
 
--- src/scan.rt:104:1
 returns-3 : tie.Need-returns-3
 unfolding acceptFrom
 returns-3 c = simp (← c .before .next-field .ensures, c .if1 .left)

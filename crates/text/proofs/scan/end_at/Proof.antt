@@ -1,14 +1,11 @@
+-- `text::scan::end_at` meets its contract. Assumes nothing.
 use borrow.Author.Tests.{le-leb, lt-leb, lt-ltb, le-ltb, eq-eqb, ne-eqb}
 use Rattle.text.proofs.scan.end_at.Statement.{statement}
 use Rattle.text.proofs.scan.end_at.Tie as tie
-use Rattle.text.proofs.scan.end_at.Reads as reads
-use Rattle.text.proofs.scan.end_at.Lts as lts
 
--- src/scan.rt:219:1
 returns : tie.Need-returns
 returns c = simp (le-leb _ _ (c .if1 .taken), le-ltb _ _ (c .if1 .taken))
 
--- src/scan.rt:219:1
 returns-2 : tie.Need-returns-2
 returns-2 c = simp (lt-ltb _ _ (c .if1 .left), lt-leb _ _ (c .if1 .left))
 

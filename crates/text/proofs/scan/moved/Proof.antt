@@ -1,20 +1,15 @@
+-- `text::scan::moved` meets its contract. Assumes nothing.
 use borrow.Author.Tests.{le-leb, lt-leb, lt-ltb, le-ltb, eq-eqb, ne-eqb}
 use borrow.Author.Needs.{needs}
 use Rattle.text.proofs.scan.moved.Statement.{statement}
 use Rattle.text.proofs.scan.moved.Tie as tie
-use Rattle.text.proofs.scan.moved.Reads as reads
-use Rattle.text.proofs.scan.moved.Lts as lts
-use Rattle.text.proofs.scan.stopped.Reads as stopped-reads
 
--- src/scan.rt:240:9
 returns : tie.Need-returns
 returns c = simp (eq-eqb _ _ (c .if1 .taken))
 
--- src/scan.rt:249:5
 stopped-requires : tie.Need-stopped-requires
 stopped-requires c κs = search needs
 
--- src/scan.rt:236:1
 returns-2 : tie.Need-returns-2
 returns-2 c = simp (c .stopped .ensures, ne-eqb _ _ (c .before .if1 .left))
 

@@ -1,49 +1,35 @@
+-- `text::scan::number_at` meets its contract. Assumes nothing.
 use Rattle.text.specs.Scans.{numberFrom}
 use Rattle.text.proofs.Laws.{field-within}
 use borrow.Author.Needs.{needs}
 use Rattle.text.proofs.scan.number_at.Statement.{statement}
 use Rattle.text.proofs.scan.number_at.Tie as tie
-use Rattle.text.proofs.scan.number_at.Reads as reads
-use Rattle.text.proofs.scan.number_at.Lts as lts
-use Rattle.text.proofs.field.next_field.Reads as next-field-reads
-use Rattle.text.proofs.number.parse.Reads as parse-reads
-use Rattle.text.proofs.scan.moved.Reads as moved-reads
-use Rattle.text.proofs.scan.stopped.Reads as stopped-reads
 
--- src/scan.rt:95:9
 next-field-requires : tie.Need-next-field-requires
 next-field-requires c κs = search needs
 
--- src/scan.rt:99:40
 sub-parse : tie.Need-sub-parse
 sub-parse c = field-within (c .before .before .before .args .line .now) (c .before .before .before .args .at) (c .before .next-field .result) (c .before .next-field .ensures) (c .if1 .taken) .0
 
--- src/scan.rt:99:40
 part-parse-start : tie.Need-part-parse-start
 part-parse-start c = field-within (c .before .before .before .args .line .now) (c .before .before .before .args .at) (c .before .next-field .result) (c .before .next-field .ensures) (c .if1 .taken) .0
 
--- src/scan.rt:99:40
 part-parse-end : tie.Need-part-parse-end
 part-parse-end c = field-within (c .before .before .before .args .line .now) (c .before .before .before .args .at) (c .before .next-field .result) (c .before .next-field .ensures) (c .if1 .taken) .1
 
--- src/scan.rt:99:34
 parse-requires : tie.Need-parse-requires
 parse-requires c κs = search needs
 
--- src/scan.rt:99:9
 moved-requires : tie.Need-moved-requires
 moved-requires c κs = search needs
 
--- src/scan.rt:99:9
 returns : tie.Need-returns
 unfolding numberFrom
 returns c = simp (c .moved .ensures, c .before .parse .ensures, ← c .before .before .before .before .next-field .ensures, c .before .before .before .if1 .taken)
 
--- src/scan.rt:101:5
 stopped-requires : tie.Need-stopped-requires
 stopped-requires c κs = search needs
 
--- src/scan.rt:92:1
 returns-2 : tie.Need-returns-2
 unfolding numberFrom
 returns-2 c = simp (c .stopped .ensures, ← c .before .before .next-field .ensures, c .before .if1 .left)

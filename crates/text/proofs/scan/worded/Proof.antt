@@ -1,23 +1,17 @@
+-- `text::scan::worded` meets its contract. Assumes nothing.
 use borrow.Author.Needs.{needs}
 use Rattle.text.proofs.scan.worded.Statement.{statement}
 use Rattle.text.proofs.scan.worded.Tie as tie
-use Rattle.text.proofs.scan.worded.Reads as reads
-use Rattle.text.proofs.scan.worded.Lts as lts
-use Rattle.text.proofs.scan.scan_at.Reads as scan-at-reads
 
--- src/scan.rt:177:19
 scan-at-requires : tie.Need-scan-at-requires
 scan-at-requires c κs = search needs
 
--- src/scan.rt:176:9
 returns : tie.Need-returns
 returns c = simp (c .scan-at .ensures, c .before .if1 .taken)
 
--- src/scan.rt:182:15
 scan-at-requires-2 : tie.Need-scan-at-requires-2
 scan-at-requires-2 c κs = search needs
 
--- src/scan.rt:172:1
 returns-2 : tie.Need-returns-2
 returns-2 c = simp (c .scan-at2 .ensures, c .before .if1 .left)
 

@@ -1,0 +1,14 @@
+use Rattle.calls.proofs.prompt.Statement.{statement}
+use Rattle.calls.proofs.prompt.Tie as tie
+
+prompt-requires : tie.Need-prompt-requires
+prompt-requires c κs = tt
+
+returns : tie.Need-returns
+returns c = simp (c .prompt .ensures, c .before .before .if1 .taken)
+
+returns-2 : tie.Need-returns-2
+returns-2 c = simp (c .if1 .left)
+
+pub prompt-spec : {M : Type 1} → statement M
+prompt-spec = tie.close (tie.spec prompt-requires returns returns-2)

@@ -1,0 +1,5 @@
+pub mod Blank
+pub mod Open
+pub mod Told
+pub mod Read
+pub mod Laws

@@ -1,0 +1,49 @@
+use Prim.Native.Nat.{_≤_, _<_}
+use mathlib.Core.Path.{refl}
+use native.Mathlib.Omega.{arith}
+use borrow.Author.Needs.{needs}
+use borrow.Author.Tests.{lt-ltb, le-ltb}
+use lib.ListN.{length-set}
+use Rattle.items.specs.Items.{item}
+use Rattle.items.specs.Arrays.{mostListed}
+use Rattle.items.specs.Laws.{noted}
+use Rattle.items.proofs.note.Statement.{statement}
+use Rattle.items.proofs.note.Tie as tie
+
+returns : tie.Need-returns
+returns c =
+    let a = c .before .args in
+    let h : mostListed ≤ a .n = omega arith in
+    record { count = rw (le-ltb (a .n) mostListed h); list = rw (le-ltb (a .n) mostListed h); full = λ _. (refl, refl); wide = c .before .pre }
+
+add-next : tie.Need-add-next
+add-next c = search needs
+
+mul-kind : tie.Need-mul-kind
+mul-kind c = search needs
+
+element-write-kind : tie.Need-element-write-kind
+element-write-kind c = search needs
+
+mul-key : tie.Need-mul-key
+mul-key c = search needs
+
+element-write-key : tie.Need-element-write-key
+element-write-key c = search needs
+
+returns-2 : tie.Need-returns-2
+returns-2 c =
+    let a = c .before .args in
+    let p = c .before .pre in
+    let h : a .n < mostListed = omega arith in
+    record {
+      count = rw (lt-ltb (a .n) mostListed h);
+      list = rw (lt-ltb (a .n) mostListed h) (noted (a .kind .now) (a .key .now) (a .n) (item 0 (a .k) (a .x)) (p .0) (p .1) h);
+      full = λ k. absurd (omega arith);
+      wide = (simp length-set (p .0), simp length-set (p .1));
+    }
+
+pub note-spec : {M : Type 1} → statement M
+note-spec =
+    tie.close
+    (tie.spec returns add-next mul-kind element-write-kind mul-key element-write-key returns-2)

@@ -1,0 +1,4 @@
+pub mod Items
+pub mod Arrays
+pub mod Sorted
+pub mod Laws

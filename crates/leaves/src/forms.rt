@@ -1,0 +1,114 @@
+// The forms of answers. A form is some lines, with a sign for each part that the row holds:
+//   #   a number
+//   ?   a number, or `-` where the place before it has 0
+//   @   a schedule: its length, its keepalive map and its offsets, in 18 places
+use libc::STDOUT_FILENO;
+use lines::Output;
+use requests::Form;
+
+// The output so far, and the place of the next number.
+struct Pen {
+    o: Output,
+    at: usize,
+}
+
+pub fn write(out: &mut [u8], o: Output, form: Form, v: &[u64; 128]) -> Output {
+    let forms = b"= #
+= sched @ dropped #
+= next_at ? due # any # send # latest # last # next #
+= place #
+= hold #
+= refused #
+= confirm # span ? grace # rung # gap # budget # inert # #
+= first @
+= fin @
+= probes @
+= revert @
+= elicit @
+= delayed @
+";
+    let start = text::behind(forms, b'\n', form.from);
+    let end = text::behind(forms, b'\n', form.to);
+    fill(out, o, forms, start, end, v)
+}
+
+fn fill(
+    out: &mut [u8],
+    o: Output,
+    forms: &[u8],
+    start: usize,
+    end: usize,
+    v: &[u64; 128],
+) -> Output {
+    let mut pen = Pen { o: o, at: 0 };
+    let mut i = start;
+    while i < end {
+        pen = write_part(out, pen, byte_at(forms, i), v);
+        i += 1;
+    }
+    pen.o
+}
+
+// The byte of `s` at `i`, 0 past the end.
+fn byte_at(s: &[u8], i: usize) -> u8 {
+    if i < s.len() { s[i] } else { 0 }
+}
+
+fn write_part(out: &mut [u8], pen: Pen, sign: u8, v: &[u64; 128]) -> Pen {
+    match sign {
+        b'#' => write_number(out, pen, v),
+        b'?' => write_optional(out, pen, v),
+        b'@' => write_schedule(out, pen, v),
+        _ => write_byte(out, pen, sign),
+    }
+}
+
+fn write_byte(out: &mut [u8], pen: Pen, b: u8) -> Pen {
+    let one = [b];
+    Pen {
+        o: pen.o.bytes(STDOUT_FILENO, out, &one),
+        at: pen.at,
+    }
+}
+
+fn write_number(out: &mut [u8], pen: Pen, v: &[u64; 128]) -> Pen {
+    Pen {
+        o: pen.o.number(STDOUT_FILENO, out, requests::get(v, pen.at)),
+        at: requests::after(pen.at, 1),
+    }
+}
+
+fn write_optional(out: &mut [u8], pen: Pen, v: &[u64; 128]) -> Pen {
+    let is_some = requests::get(v, pen.at);
+    let mut next = pen;
+    next.at = requests::after(pen.at, 1);
+    if is_some == 1 {
+        return write_number(out, next, v);
+    }
+    next.at = requests::after(pen.at, 2);
+    write_byte(out, next, b'-')
+}
+
+fn write_schedule(out: &mut [u8], pen: Pen, v: &[u64; 128]) -> Pen {
+    let len = requests::byte(requests::get(v, pen.at));
+    let mut written = write_run(out, pen, len, v);
+    written.at = requests::after(pen.at, 18);
+    written
+}
+
+// The length and, each behind a space, the keepalive map and `n` offsets.
+fn write_run(out: &mut [u8], pen: Pen, n: u8, v: &[u64; 128]) -> Pen {
+    let most = n as u64;
+    let mut written = write_number(out, pen, v);
+    let mut i: u64 = 0;
+    while i <= most {
+        written = write_spaced(out, written, v);
+        i += 1;
+    }
+    written
+}
+
+fn write_spaced(out: &mut [u8], pen: Pen, v: &[u64; 128]) -> Pen {
+    let spaced = write_byte(out, pen, b' ');
+    write_number(out, spaced, v)
+}

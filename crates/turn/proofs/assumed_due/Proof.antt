@@ -1,0 +1,16 @@
+use mathlib.Core.Path.{refl}
+use mir.Facts.{toZ-ofZ}
+use Rattle.turn.specs.Turn.{assumed}
+use borrow.Author.Needs.{needs}
+use Rattle.turn.proofs.assumed_due.Statement.{statement}
+use Rattle.turn.proofs.assumed_due.Tie as tie
+
+cut-by-requires : tie.Need-cut-by-requires
+cut-by-requires c κs = tt
+
+returns : tie.Need-returns
+unfolding assumed
+returns c = (simp (c .before .before .before .cut-by .ensures .0, c .before .before .before .cut-by .ensures .1 .0, c .before .before .before .cut-by .ensures .1 .1, toZ-ofZ (c .before .before .before .before .before .fits .spread)), (simp (c .before .before .before .cut-by .ensures .0, c .before .before .before .cut-by .ensures .1 .0, c .before .before .before .cut-by .ensures .1 .1, toZ-ofZ (c .before .before .before .before .before .fits .spread)), refl))
+
+pub assumed-due-spec : {M : Type 1} → statement M
+assumed-due-spec = tie.close (tie.spec cut-by-requires returns)

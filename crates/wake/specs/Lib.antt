@@ -1,0 +1,6 @@
+pub mod Kinds
+pub mod Due
+pub mod Wake
+pub mod Quiet
+pub mod Earliest
+pub mod Laws
