@@ -1,1 +1,2 @@
 pub mod Cutover
+pub mod Most

@@ -4,7 +4,7 @@ use Prim.Native.Nat.{ℕ, zero, suc, _≤_, _<_}
 use mathlib.Core.Bool.{Bool, true, false, _&&_, _||_, true≢false, false≢true}
 use mathlib.Core.Logic.{_↔_, _⊎_, inl, inr, ⊎-elim}
 use mathlib.Core.Path.{_≡_, refl, sym, _∙_, ap}
-use mathlib.Core.List.{List, [], _∷_}
+use mathlib.Core.List.{List, [], _∷_, _++_}
 use native.Mathlib.Omega.{arith}
 use lib.Dec.{ltb, eqb}
 use lib.ListN.{getD}
@@ -126,3 +126,19 @@ unfolding anyOf
 none-at [] h i = refl
 none-at (t ∷ l) h zero = or-left (t .back) (anyBack l) h
 none-at (t ∷ l) h (suc i) = none-at l (or-right (t .back) (anyBack l) h) i
+
+-- ---- tests after others
+
+-- tests after others are read where those give no number
+pub first-append : (l m : List Test) (k : ℕ) → rising k l ≡ true → first (l ++ m) ≡ pick (eqb (first l .number) 0) (first m) (first l)
+unfolding first rising
+first-append [] m k r = refl
+first-append (t ∷ l) m k r =
+    under (t .back) (first-append l m (t .answer .number) (and-right (ltb k (t .answer .number)) (rising (t .answer .number) l) r))
+  where
+    some : eqb (t .answer .number) 0 ≡ false
+    some = ne-eqb (t .answer .number) 0 (λ e. absurd (omega (arith, ltb-true k (t .answer .number) (and-left (ltb k (t .answer .number)) (rising (t .answer .number) l) r))))
+
+    under : (b : Bool) → first (l ++ m) ≡ pick (eqb (first l .number) 0) (first m) (first l) → pick b (t .answer) (first (l ++ m)) ≡ pick (eqb (pick b (t .answer) (first l) .number) 0) (first m) (pick b (t .answer) (first l))
+    under true e = sym (ap (λ b. pick b (first m) (t .answer)) some)
+    under false e = e

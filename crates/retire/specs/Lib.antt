@@ -1,1 +1,2 @@
 pub mod Retire
+pub mod Most

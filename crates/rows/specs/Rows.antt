@@ -1,7 +1,8 @@
 -- The rows of the poll, one definition each, in the order of `Due`: what a row leaves of the part of
 -- the state that it changes, and its events. A row whose item is no longer there changes nothing.
 use Prim.Native.Nat.{ℕ, _+_, _-_, _*_}
-use mathlib.Core.Bool.{Bool, true, false, not}
+use mathlib.Core.Bool.{Bool, true, false, not, false≢true}
+use mathlib.Core.Path.{_≡_, refl}
 use mathlib.Core.List.{List, [], _∷_, _++_}
 use lib.Dec.{leb, ltb, eqb}
 use Rattle.time.specs.declared.When.{When}
@@ -189,3 +190,13 @@ expireDue c m cfg alone now extra =
     pick (and (isInit (c .kind)) (leb (c .init .deadline) now))
     (record { cycle = idled c; mem = abandonedMem m cfg now extra; out = abandonOut (c .init) 4 ++ only alone (Teardown 1); ends = alone })
     (record { cycle = c; mem = m; out = []; ends = false })
+
+-- ---- laws of two tests
+
+pub and-left : (a b : Bool) → and a b ≡ true → a ≡ true
+and-left true b e = refl
+and-left false b e = e
+
+pub and-right : (a b : Bool) → and a b ≡ true → b ≡ true
+and-right true b e = e
+and-right false b e = absurd (false≢true e)

@@ -1,0 +1,25 @@
+use Rattle.closing.specs.Logs.{offerLog}
+use borrow.Author.Needs.{needs}
+use Rattle.closing.proofs.offer.Statement.{statement}
+use Rattle.closing.proofs.offer.Tie as tie
+
+offered-requires : tie.Need-offered-requires
+offered-requires c κs = tt
+
+returns : tie.Need-returns
+unfolding offerLog
+returns c = simp (c .if2 .taken, ← c .before .offered .ensures, c .before .before .before .if1 .taken)
+
+delegate-requires : tie.Need-delegate-requires
+delegate-requires c κs = tt
+
+returns-2 : tie.Need-returns-2
+unfolding offerLog
+returns-2 c = simp (c .delegate .ensures, c .before .before .if2 .left, ← c .before .before .before .offered .ensures, c .before .before .before .before .before .if1 .taken)
+
+returns-3 : tie.Need-returns-3
+unfolding offerLog
+returns-3 c = simp (c .if1 .left)
+
+pub offer-spec : {M : Type 1} → statement M
+offer-spec = tie.close (tie.spec offered-requires returns delegate-requires returns-2 returns-3)

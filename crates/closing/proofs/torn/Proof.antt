@@ -1,0 +1,15 @@
+use borrow.Author.Needs.{needs}
+use Rattle.closing.proofs.torn.Statement.{statement}
+use Rattle.closing.proofs.torn.Tie as tie
+
+teardown-requires : tie.Need-teardown-requires
+teardown-requires c κs = tt
+
+returns : tie.Need-returns
+returns c = simp (c .teardown .ensures, c .before .before .if1 .taken)
+
+returns-2 : tie.Need-returns-2
+returns-2 c = simp (c .if1 .left)
+
+pub torn-spec : {M : Type 1} → statement M
+torn-spec = tie.close (tie.spec teardown-requires returns returns-2)

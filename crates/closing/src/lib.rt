@@ -1,0 +1,121 @@
+// What a poll does after its passes (machine.rs, the end of `poll`, and `withdraw`): the teardown
+// tests, the start, the offers, and the prompts that can be sealed no more. The state stays.
+ghost use mathlib.Core.Path.{_≡_};
+ghost use mathlib.Core.Bool.{not, _&&_, _||_};
+ghost use Rattle.events.specs.Log.{at, logged};
+ghost use Rattle.events.specs.Events.{Teardown};
+ghost use Rattle.events.specs.Withdraw.{given, withdrawn};
+ghost use Rattle.retire.specs.Retire.{only};
+ghost use Rattle.closing.specs.Closing.{idleNow, testsOut, endsNow, startOut, waitsFor};
+ghost use Rattle.closing.specs.Logs.{offerLog, goLog, closedLog};
+use cycle::Cycle;
+use epoch::Epoch;
+use settings::Config;
+use state::Given;
+use state::State;
+
+// How long the log is after the teardown tests, and whether the link ended.
+pub struct Tested {
+    pub len: usize,
+    pub ended: bool,
+}
+
+// A teardown is told where its test holds.
+fn torn(stands: bool, why: u64, log: &mut [u64; 768], len: usize) -> usize
+    ensures { λ r. ⌜ at r (now (log .exit)) ≡ logged (at len (now (log .entry))) (only stands (Teardown why)) ⌝ }
+{
+    if stands {
+        events::teardown(log, len, why)
+    } else {
+        len
+    }
+}
+
+fn either(a: bool, b: bool) -> bool
+    ensures { λ r. ⌜ r ≡ (a || b) ⌝ }
+{
+    if a { true } else { b }
+}
+
+// OpeningIdle is not tested where a pass ended the link.
+fn idle_now(s: State, ended: bool) -> bool
+    ensures { λ r. ⌜ r ≡ idleNow s ended ⌝ }
+{
+    if ended { false } else { wake::opening_idle(s) }
+}
+
+// The teardown tests.
+fn tests(s: State, cfg: Config, ended: bool, log: &mut [u64; 768], len: usize) -> Tested
+    ensures { λ r. ⌜ (at (r .len) (now (log .exit)) ≡ logged (at len (now (log .entry))) (testsOut s cfg ended)) × (r .ended ≡ endsNow s cfg ended) ⌝ }
+{
+    let idle = idle_now(s, ended);
+    let spent = wake::exhausted(s, cfg);
+    let a = torn(idle, 0, log, len);
+    let b = torn(spent, 2, log, a);
+    Tested {
+        len: b,
+        ended: either(either(ended, idle), spent),
+    }
+}
+
+// A start is told while one is called for: the caller answers it with a start reply.
+fn start(s: State, g: Given, log: &mut [u64; 768], len: usize) -> usize
+    ensures { λ r. ⌜ at r (now (log .exit)) ≡ logged (at len (now (log .entry))) (startOut s g) ⌝ }
+{
+    if start::called_for(s, g.cfg, g.profile, g.now) {
+        let k = start::kind(s, g.cfg, g.profile, g.now);
+        return events::start(log, len, k.at);
+    }
+    len
+}
+
+// An epoch is offered to a worker unless an earlier event of this answer did so.
+fn offer(some: bool, e: Epoch, workers: bool, log: &mut [u64; 768], len: usize) -> usize
+    ensures { λ r. ⌜ at r (now (log .exit)) ≡ offerLog some e workers (at len (now (log .entry))) ⌝ }
+{
+    if some {
+        if events::offered(log, len, e.tag) {
+            return len;
+        }
+        return retire::delegate(e, workers, log, len);
+    }
+    len
+}
+
+// The start and the offers, unless the link ended.
+fn go(s: State, g: Given, ended: bool, log: &mut [u64; 768], len: usize) -> usize
+    ensures { λ r. ⌜ at r (now (log .exit)) ≡ goLog s g ended (at len (now (log .entry))) ⌝ }
+{
+    if ended {
+        return len;
+    }
+    let a = start(s, g, log, len);
+    let cur = s.cur.ep;
+    let b = offer(s.cur.some, cur, g.workers, log, a);
+    let old = s.drain.ep;
+    offer(s.drain.some, old, g.workers, log, b)
+}
+
+// Whether the pending epoch is an own one that waits for evidence.
+fn waits_for(kind: u8, wait: u8) -> bool
+    ensures { λ r. ⌜ r ≡ waitsFor kind wait ⌝ }
+{
+    if kind == 2 { wait == 1 } else { false }
+}
+
+// All that follows the passes; how long the log is.
+pub fn close(s: State, g: Given, ended: bool, log: &mut [u64; 768], len: usize) -> usize
+    ensures { λ r. ⌜ at r (now (log .exit)) ≡ closedLog s g ended (at len (now (log .entry))) ⌝ }
+{
+    let t = tests(s, g.cfg, ended, log, len);
+    let n = go(s, g, t.ended, log, t.len);
+    let waits = waits_for(s.cycle.kind, s.cycle.pendi.wait);
+    events::withdraw(
+        log,
+        n,
+        s.cur.some,
+        s.cur.ep.tag,
+        waits,
+        s.cycle.pendi.ep.tag,
+    )
+}

@@ -1,0 +1,2 @@
+pub mod Evidence
+pub mod Laws

@@ -1,0 +1,75 @@
+-- Laws of a frame's answer.
+use Prim.Native.Nat.{ℕ, zero, suc, _≤_, _<_}
+use mathlib.Core.Bool.{Bool, true, false, not, _&&_, false≢true}
+use mathlib.Core.Logic.{_↔_}
+use mathlib.Core.Path.{_≡_, refl, sym, _∙_, ap}
+use mathlib.Core.List.{List, [], _∷_, _++_}
+use native.Mathlib.Omega.{arith}
+use lib.Dec.{eqb, ltb}
+use lib.IntN.{ℤ}
+use lib.ListN.{length}
+use borrow.Author.Tests.{ltb-true, ne-eqb, eq-eqb}
+use Rattle.time.specs.Pick.{pick}
+use Rattle.settings.specs.declared.Config.{Config}
+use Rattle.state.specs.declared.State.{State}
+use Rattle.state.specs.declared.Profile.{Profile}
+use Rattle.events.specs.Events.{Event}
+use Rattle.refusal.specs.declared.Refused.{Refused}
+use Rattle.refusal.specs.Refusal.{Test, first, by, numbered, givenTests, stateTests, frameTests, beforeFrame}
+use Rattle.refusal.specs.First.{rising, backAt, backBelow, exactly, first-append}
+use Rattle.frame.specs.declared.FrameProof.{FrameProof}
+use Rattle.frame.specs.Frame.{slotTag, frameBack, frameOf}
+use Rattle.frame.specs.Most.{frame-most}
+use Rattle.frames.specs.Frames.{slotEmpty, otherTag, heardTests, frameRefused, givenOf, frameAnswer}
+
+-- ---- the refusals
+
+module _ (s : State) (cfg : Config) (profile : Profile) (spread : ℤ) where
+  -- 8 and 9 by themselves are the number that `frame_back` gives
+  own-two : (slot tag : ℕ) → first (by 8 (slotEmpty s slot) ∷ by 9 (otherTag s slot tag) ∷ []) ≡ numbered (frameBack s slot tag)
+  unfolding first frameBack
+  own-two slot tag = under (slotTag s slot .some) (eqb (slotTag s slot .at) tag)
+    where
+      under : (a b : Bool) → pick (not a) (numbered 8) (pick (not b) (numbered 9) (numbered 0)) ≡ numbered (pick a (pick b 0 9) 8)
+      under true true = refl
+      under true false = refl
+      under false true = refl
+      under false false = refl
+
+  -- 1 to 7 come first
+  pub frame-refused : (slot tag : ℕ) → frameRefused s cfg profile spread slot tag ≡ pick (eqb (beforeFrame s cfg profile spread .number) 0) (numbered (frameBack s slot tag)) (beforeFrame s cfg profile spread)
+  unfolding frameRefused heardTests frameTests givenTests stateTests rising
+  frame-refused slot tag =
+      first-append (frameTests s cfg profile spread) (by 8 (slotEmpty s slot) ∷ by 9 (otherTag s slot tag) ∷ []) 0 refl
+      ∙ ap (λ r. pick (eqb (beforeFrame s cfg profile spread .number) 0) r (beforeFrame s cfg profile spread)) (own-two slot tag)
+
+  -- each number is given exactly when its condition holds and that of no lower number does
+  pub frame-exactly : (slot tag n : ℕ) → (n ≡ 0 → ⊥) → (frameRefused s cfg profile spread slot tag .number ≡ n) ↔ ((backAt n (heardTests s cfg profile spread slot tag) ≡ true) × (backBelow n (heardTests s cfg profile spread slot tag) ≡ false))
+  unfolding frameRefused heardTests frameTests givenTests stateTests rising
+  frame-exactly slot tag n h = exactly (heardTests s cfg profile spread slot tag) 0 n refl h
+
+module _ (s : State) (cfg : Config) (profile : Profile) (time : ℕ) (workers : Bool) (spread : ℤ) (p : FrameProof) (body : ℕ) (source target : List ℕ) where
+  -- "No answer has more than 96": a frame has 16 at most
+  pub frame-few : length (frameAnswer s cfg profile time workers spread p body source target .out) ≤ 96
+  unfolding frameAnswer
+  frame-few = under (eqb (frameRefused s cfg profile spread (p .slot) (p .tag) .number) 0)
+    where
+      under : (b : Bool) → length (pick b (frameOf s (givenOf cfg profile time workers) spread p body source target .out) []) ≤ 96
+      under true = omega (arith, frame-most s (givenOf cfg profile time workers) spread p body source target)
+      under false = omega arith
+
+  -- a frame that is sent back changes nothing and tells nothing
+  pub frame-back-leaves :
+      (frameAnswer s cfg profile time workers spread p body source target .number ≡ 0 → ⊥)
+      → (frameAnswer s cfg profile time workers spread p body source target .state ≡ s)
+      × ((frameAnswer s cfg profile time workers spread p body source target .target ≡ target)
+      × (frameAnswer s cfg profile time workers spread p body source target .out ≡ []))
+  unfolding frameAnswer
+  frame-back-leaves h =
+      let e = ne-eqb (frameRefused s cfg profile spread (p .slot) (p .tag) .number) 0 h in (
+        ap (λ b. pick b (frameOf s (givenOf cfg profile time workers) spread p body source target .state) s) e,
+        (
+          ap (λ b. pick b (frameOf s (givenOf cfg profile time workers) spread p body source target .target) target) e,
+          ap (λ b. pick b (frameOf s (givenOf cfg profile time workers) spread p body source target .out) []) e,
+        ),
+      )

@@ -1,0 +1,85 @@
+// The call of a frame: a frame from the peer that authenticated is taken, or sent back by number.
+ghost use mathlib.Core.Path.{_≡_};
+ghost use Rattle.events.specs.Log.{at, logged};
+ghost use Rattle.frames.specs.Frames.{frameRefused, givenOf, frameAnswer};
+use frame::FrameProof;
+use refusal::Refused;
+use settings::Config;
+use state::Given;
+use state::Profile;
+use state::State;
+
+// What a frame answers: the refusal's number, 0 where there is none, with the check's place in 1;
+// the state, and how many events the log has.
+#[repr(C)]
+pub struct Heard {
+    pub number: u8,
+    pub place: u8,
+    pub state: State,
+    pub len: usize,
+}
+
+// 1 to 7, then 8 and 9.
+fn send_back(s: State, cfg: Config, profile: Profile, spread: i32, slot: u8, tag: u64) -> Refused
+    ensures { λ r. ⌜ r ≡ frameRefused s cfg profile spread slot tag ⌝ }
+{
+    let back = refusal::before_frame(s, cfg, profile, spread);
+    if back.number != 0 {
+        return back;
+    }
+    let number = frame::frame_back(s, slot, tag);
+    Refused {
+        number: number,
+        place: 0,
+    }
+}
+
+// What a frame is given beside the state. No row of a frame reads the extra.
+fn gather(cfg: Config, profile: Profile, time: u64, workers: bool) -> Given
+    ensures { λ r. ⌜ r ≡ givenOf cfg profile time workers ⌝ }
+{
+    Given {
+        cfg: cfg,
+        profile: profile,
+        now: time,
+        workers: workers,
+        extra: 0,
+    }
+}
+
+// A frame. A refused call hands back the state that it was given, and writes neither to the target
+// nor to the log.
+pub fn frame(
+    s: State,
+    cfg: Config,
+    profile: Profile,
+    time: u64,
+    workers: bool,
+    spread: i32,
+    p: FrameProof,
+    body: usize,
+    source: &[u8],
+    target: &mut [u8],
+    log: &mut [u64; 768],
+) -> Heard
+    ensures { λ r. ⌜ (r .number ≡ frameAnswer s cfg profile time workers spread p body (now (source .entry)) (now (target .entry)) .number) × ((r .place ≡ frameAnswer s cfg profile time workers spread p body (now (source .entry)) (now (target .entry)) .place) × ((r .state ≡ frameAnswer s cfg profile time workers spread p body (now (source .entry)) (now (target .entry)) .state) × ((now (target .exit) ≡ frameAnswer s cfg profile time workers spread p body (now (source .entry)) (now (target .entry)) .target) × (at (r .len) (now (log .exit)) ≡ logged (at 0 (now (log .entry))) (frameAnswer s cfg profile time workers spread p body (now (source .entry)) (now (target .entry)) .out))))) ⌝ }
+{
+    let back = send_back(s, cfg, profile, spread, p.slot, p.tag);
+    if back.number != 0 {
+        return Heard {
+            number: back.number,
+            place: back.place,
+            state: s,
+            len: 0,
+        };
+    }
+    let g = gather(cfg, profile, time, workers);
+    let f = frame::frame_accepted(s, g, spread, p, body, source, target, log, 0);
+    let state = f.state;
+    Heard {
+        number: back.number,
+        place: back.place,
+        state: state,
+        len: f.len,
+    }
+}

@@ -1,0 +1,18 @@
+use Rattle.wake.specs.Due.{mayInstants}
+use borrow.Author.Needs.{needs}
+use Rattle.listing.proofs.may_next.Statement.{statement}
+use Rattle.listing.proofs.may_next.Tie as tie
+
+ladder-next-requires : tie.Need-ladder-next-requires
+ladder-next-requires c κs = search needs
+
+returns : tie.Need-returns
+unfolding mayInstants
+returns c = rw (c .before .before .if1 .taken) (c .ladder-next .ensures)
+
+returns-2 : tie.Need-returns-2
+unfolding mayInstants
+returns-2 c = rw (c .if1 .left)
+
+pub may-next-spec : {M : Type 1} → statement M
+may-next-spec = tie.close (tie.spec ladder-next-requires returns returns-2)

@@ -1,0 +1,3 @@
+pub mod Cost
+pub mod Items
+pub mod Pass

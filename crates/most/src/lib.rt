@@ -1,0 +1,1 @@
+// Laws about how many events the items of a poll have. No code: see specs/.

@@ -1,0 +1,72 @@
+// The passes of a poll (machine.rs: `expire_pass` and the loop of `poll`).
+ghost use mathlib.Core.Path.{_≡_};
+ghost use mathlib.Core.Bool.{Bool};
+ghost use mathlib.Core.List.{[]};
+ghost use Prim.Native.Nat.{_≤_};
+ghost use Rattle.time.specs.Pick.{pick};
+ghost use Rattle.items.specs.Arrays.{most, listFrom};
+ghost use Rattle.events.specs.Log.{at, logged};
+ghost use Rattle.turn.specs.Turn.{itemStep};
+ghost use Rattle.pass.specs.Pass.{workOf, passOf};
+use state::Given;
+use state::State;
+use turn::Ran;
+
+fn either(a: bool, b: bool) -> bool
+    ensures { λ r. ⌜ r ≡ pick a Bool.true b ⌝ }
+{
+    if a { true } else { b }
+}
+
+// One item.
+fn step(
+    s: State,
+    g: Given,
+    spread: i32,
+    kind: u64,
+    key: u64,
+    log: &mut [u64; 768],
+    len: usize,
+) -> Ran
+    ensures { λ r. ⌜ (r .state ≡ itemStep s g spread kind key .state) × ((at (r .len) (now (log .exit)) ≡ logged (at len (now (log .entry))) (itemStep s g spread kind key .out)) × (r .ended ≡ itemStep s g spread kind key .ends)) ⌝ }
+{
+    if kind == 1 {
+        turn::candidate_due(s, key, g.now, log, len)
+    } else {
+        turn::other(s, g, spread, kind, key, log, len)
+    }
+}
+
+// Every item of a pass in order, also after one that ends the link.
+pub fn run(
+    s: State,
+    g: Given,
+    spread: i32,
+    kind: &[u64; 40],
+    key: &[u64; 40],
+    n: usize,
+    log: &mut [u64; 768],
+    len: usize,
+    ended: bool,
+) -> Ran
+    requires { ⌜ n ≤ most ⌝ }
+    ensures { λ r. ⌜ (r .state ≡ passOf g spread (listFrom (now (kind .entry)) (now (key .entry)) 0 n) (workOf s [] ended) .state) × ((at (r .len) (now (log .exit)) ≡ logged (at len (now (log .entry))) (passOf g spread (listFrom (now (kind .entry)) (now (key .entry)) 0 n) (workOf s [] ended) .out)) × (r .ended ≡ passOf g spread (listFrom (now (kind .entry)) (now (key .entry)) 0 n) (workOf s [] ended) .ended)) ⌝ }
+{
+    let mut st = s;
+    let mut m = len;
+    let mut ends = ended;
+    let mut i = 0;
+    while i < n {
+        let t = step(st, g, spread, kind[i], key[i], log, m);
+        let next = t.state;
+        st = next;
+        m = t.len;
+        ends = either(ends, t.ended);
+        i += 1;
+    }
+    Ran {
+        state: st,
+        len: m,
+        ended: ends,
+    }
+}

@@ -1,0 +1,2 @@
+pub mod TwoRuns
+pub mod Holds

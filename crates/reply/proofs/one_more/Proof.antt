@@ -1,0 +1,23 @@
+use native.Mathlib.Omega.{arith}
+use Prim.Native.Nat.{_+_, _≤_}
+use mathlib.Core.Path.{sym}
+use borrow.Author.Needs.{needs}
+use Rattle.time.specs.Time.{least-left, least-right}
+use Rattle.reply.proofs.one_more.Statement.{statement}
+use Rattle.reply.proofs.one_more.Tie as tie
+
+add-result : tie.Need-add-result
+add-result c = search needs
+
+returns : tie.Need-returns
+returns c =
+    let h : c .before .args .n + 1 ≤ 255 = omega arith in
+    sym (least-left h)
+
+returns-2 : tie.Need-returns-2
+returns-2 c =
+    let h : 255 ≤ c .before .args .n + 1 = omega arith in
+    sym (least-right h)
+
+pub one-more-spec : {M : Type 1} → statement M
+one-more-spec = tie.close (tie.spec add-result returns returns-2)

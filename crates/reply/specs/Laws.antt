@@ -1,0 +1,73 @@
+-- Laws of a start reply.
+use Prim.Native.Nat.{ℕ, _≤_, _<_, _+_}
+use mathlib.Core.Bool.{Bool, true, false, not, _&&_, false≢true}
+use mathlib.Core.Logic.{_↔_}
+use mathlib.Core.Path.{_≡_, refl, sym, _∙_, ap}
+use mathlib.Core.List.{List, [], _∷_, _++_}
+use native.Mathlib.Omega.{arith}
+use lib.Dec.{eqb, ltb}
+use borrow.Author.Tests.{ltb-true, le-ltb, ne-eqb}
+use Rattle.time.specs.declared.When.{When}
+use Rattle.time.specs.Pick.{pick}
+use Rattle.time.specs.Time.{least}
+use Rattle.settings.specs.declared.Config.{Config}
+use Rattle.state.specs.declared.Memory.{Memory}
+use Rattle.state.specs.declared.State.{State}
+use Rattle.state.specs.declared.Profile.{Profile}
+use Rattle.start.specs.Start.{silenceInterval, startKind, calledFor}
+use Rattle.refusal.specs.declared.Refused.{Refused}
+use Rattle.refusal.specs.Refusal.{Test, first, by, numbered, givenTests, stateTests, replyTests, beforeReply}
+use Rattle.refusal.specs.First.{rising, backAt, backBelow, exactly, first-append}
+use Rattle.reply.specs.declared.StartReply.{StartReply}
+use Rattle.reply.specs.Reply.{raisesSilence, silenceAfter, startedOf, takenOf, repliedTests, replyRefused, replyOf}
+
+module _ (s : State) (cfg : Config) (p : Profile) (now : ℕ) where
+  own-ten : first (by 10 (not (calledFor s cfg p now)) ∷ []) ≡ numbered (pick (calledFor s cfg p now) 0 10)
+  unfolding first
+  own-ten = under (calledFor s cfg p now)
+    where
+      under : (b : Bool) → pick (not b) (numbered 10) (numbered 0) ≡ numbered (pick b 0 10)
+      under true = refl
+      under false = refl
+
+  -- 1 to 6 come first
+  pub reply-refused : replyRefused s cfg p now ≡ pick (eqb (beforeReply s cfg p .number) 0) (numbered (pick (calledFor s cfg p now) 0 10)) (beforeReply s cfg p)
+  unfolding replyRefused repliedTests replyTests givenTests stateTests rising
+  reply-refused =
+      first-append (replyTests s cfg p) (by 10 (not (calledFor s cfg p now)) ∷ []) 0 refl
+      ∙ ap (λ r. pick (eqb (beforeReply s cfg p .number) 0) r (beforeReply s cfg p)) own-ten
+
+  -- each number is given exactly when its condition holds and that of no lower number does
+  pub reply-exactly : (n : ℕ) → (n ≡ 0 → ⊥) → (replyRefused s cfg p now .number ≡ n) ↔ ((backAt n (repliedTests s cfg p now) ≡ true) × (backBelow n (repliedTests s cfg p now) ≡ false))
+  unfolding replyRefused repliedTests replyTests givenTests stateTests rising
+  reply-exactly n h = exactly (repliedTests s cfg p now) 0 n refl h
+
+  -- at `hard` no start is called for, and so no reply is taken
+  pub none-at-hard : cfg .hard ≤ s .cur .ep .sent → calledFor s cfg p now ≡ false
+  unfolding calledFor
+  none-at-hard h = both (startKind s cfg p now .some) (le-ltb (s .cur .ep .sent) (cfg .hard) h)
+    where
+      both : (b : Bool) {x : Bool} → x ≡ false → b && x ≡ false
+      both true e = e
+      both false e = refl
+
+  -- a start that opened nothing leaves the state, refused or not
+  pub unopened : (r : StartReply) → r .opened ≡ false → replyOf s cfg p now r .state ≡ s
+  unfolding replyOf takenOf
+  unopened r e =
+      ap (λ b. pick (eqb (replyRefused s cfg p now .number) 0) (pick b (startedOf s cfg p now r) s) s) e
+      ∙ under (eqb (replyRefused s cfg p now .number) 0)
+    where
+      under : (b : Bool) → pick b s s ≡ s
+      under true = refl
+      under false = refl
+
+-- an interval that has reached `after` leaves the silence count
+pub silence-kept : (m : Memory) (cfg : Config) (kind : When) → cfg .after ≤ silenceInterval m cfg → silenceAfter m cfg kind ≡ m .silence
+unfolding silenceAfter raisesSilence
+silence-kept m cfg kind h =
+    under (eqb (kind .at) 1) (ltb (silenceInterval m cfg) (cfg .after)) (le-ltb (silenceInterval m cfg) (cfg .after) h)
+  where
+    under : (b x : Bool) → x ≡ false → pick (b && x) (least (m .silence + 1) 255) (m .silence) ≡ m .silence
+    under true x e = ap (λ q. pick q (least (m .silence + 1) 255) (m .silence)) e
+    under false x e = refl

@@ -1,0 +1,4 @@
+pub mod Ladders
+pub mod Parts
+pub mod Cutover
+pub mod Items

@@ -1,0 +1,223 @@
+-- Demand 3 applied to one run, with a quiet poll, a cutover by a frame, a refused poll, a due item, a
+-- start and its reply: the hypotheses are met, and the theorem gives what one sees by running it.
+use Prim.Native.Nat.{ℕ, _≤_, _<_}
+use mathlib.Core.Path.{_≡_, refl, sym, _∙_, subst}
+use mathlib.Core.Bool.{Bool, true, false, true≢false, false≢true}
+use mathlib.Core.List.{List, [], _∷_}
+use mathlib.Core.Option.{none, some}
+use native.Mathlib.Omega.{arith}
+use lib.IntN.{pos}
+use Rattle.time.specs.Time.{none as never}
+use Rattle.settings.specs.declared.Config.{Config}
+use Rattle.settings.specs.Settings.{fmp}
+use Rattle.epoch.specs.declared.Epoch.{Epoch}
+use Rattle.epoch.specs.declared.Index.{Index}
+use Rattle.state.specs.declared.State.{State}
+use Rattle.state.specs.declared.Profile.{Profile}
+use Rattle.events.specs.Events.{Event, Mark, Deliver, Installed, Rekeyed, Retired, Prompt, Start}
+use Rattle.frame.specs.declared.FrameProof.{FrameProof}
+use Rattle.reply.specs.declared.StartReply.{StartReply}
+use Rattle.calls.specs.Blank.{noEpoch, noAttempt, noPendI, noCandidates, noDrain, noIndex}
+use Rattle.early.specs.Early.{Early}
+use Rattle.poll.specs.Runs.{poll, frame, reply, sent, back, gave, Entry, LeftOut, done, stays, out, logOf, second, endOf, AllQuiet, Rises, EarlyFor, Late, accepted, quiet}
+use Rattle.poll.specs.Link.{Call, aPoll, aFrame, aReply, link}
+use Rattle.poll.proofs.Holds.{two-runs}
+use Rattle.time.specs.Lists.{fold, range, kept, takeWhile}
+use Rattle.time.specs.Time.{laterOf, satAdd, satMul, least, most, factorOf, backoffOf, sumOf, laterByOf, soonerOf}
+use Rattle.ladder.specs.Fill.{lostOf, losing, pushed as ladder·pushed, putOf, offered as ladder·offered}
+use Rattle.events.specs.Log.{pushed as events·pushed, at, stored, takenOf as events·takenOf, placesOf, held}
+use Rattle.listing.specs.Listing.{offered as listing·offered, fresh, passItems}
+use Rattle.ladder.specs.Ladder.{remaining, nextAtOf, dueRungs, taking, takeOf, instantOf}
+use Rattle.ladder.specs.Schedule.{cut, doubled, doublingOf, keepalives, filled, probesOf, bitsOf, laid, madeOf, rungAt, heldOf as ladder·heldOf, rungsOf, lastOf, lastSendOf}
+use Rattle.candidates.specs.Held.{heldOf as candidates·heldOf, placeOf as candidates·placeOf, between, candAt, heldBy, without, expiredIn, earliestOf, chosen, choosing, others, removedOf, keptAfter, clearedOf, expireOf}
+use Rattle.settings.specs.Settings.{failing, firstAt, placeOf as settings·placeOf}
+use Rattle.params.specs.Params.{lastOffset, msg1Span, confirmOf, spanOf, rungOf, gapOf, budgetOf, firstMade, finMade, probesMade, revertMade, elicitMade, delayedMade, graceOf, withHoldOf}
+use Rattle.candidates.specs.Places.{moved}
+use Rattle.candidates.specs.Repeats.{among, repeated, risesFrom}
+use Rattle.items.specs.Arrays.{itemsFrom, opened, listFrom}
+use Rattle.items.specs.Items.{before, insert, sorted, listedIn}
+use Rattle.state.specs.Parts.{pendingOf, epochsOf, epochLadders, cycleLadders, allLadders, laddersOf}
+use Rattle.state.specs.Stands.{ladderView, epochView, attemptView, pendIView, pendRView, cycleView, candidateView, candidatesView, memoryView, stands}
+use Rattle.reply.specs.Reply.{takenOf as reply·takenOf, setupRtt, setupFirst, setupSched, attemptSched, attemptTime, attemptOf, raisesSilence, silenceAfter, memoryAfter, startedOf, repliedTests, replyRefused, replyOf}
+use Rattle.events.specs.Queries.{anyOf as events·anyOf, offeredIn, anyFrom}
+use Rattle.refusal.specs.Refusal.{anyOf as refusal·anyOf, profileBad, isPending, epochsBadOf, numbersBad, ladderBad, laddersBad, spreadBad, first, givenTests, stateTests, pollTests, frameTests, replyTests, stateBack}
+use Rattle.events.specs.Withdraw.{sealable, wordsStay}
+use Rattle.retire.specs.Retire.{retireOut, abandonOut, offerable, delegateOut}
+use Rattle.start.specs.Start.{triggerOf, silenceInterval, latestOf, latestIn, triggerAt, silenceAt, floorsPassed, floorEnds, dampedEnds, backedEnds, silenceWaits, dampedNow, backedNow, triggeredNow, scheduledNow, silentNow, kindOf, scheduledWaits, atOf, mayStart, startKind, startAt, calledFor}
+use Rattle.wake.specs.Due.{ladderInstants, mayInstants, finInstants, elicitInstants, drainItems, candidateItems, pendingItems, cycleItems, currentItems, named, dueItems, anyDue, currentInstants, standing}
+use Rattle.wake.specs.Quiet.{openingIdle, teardownStands, offerOwed, heldSomething}
+use Rattle.wake.specs.Wake.{exhausted, cycleInstants, storedInstants, wakeInstants, wakeOf}
+use Rattle.refusal.specs.First.{rising}
+use Rattle.refusal.specs.Standing.{sharedOf, tagsBad, pendingEp, standingBad, eitherBad, epochBad, heldBad, cycleBad}
+use Rattle.rows.specs.Rows.{isTag, isOwn, isPeers, grace, drainDue, unadoptedDue, lateFor, probing, probeDue, delayedDue, finTaken, finDue, elicitTaken, elicitDue, resendTaken, resendDue, abandonedMem, expireDue}
+use Rattle.cutover.specs.Cutover.{prunes, pruned, demoted, givenUp, spent, keptFin, heardNow, adopted, heardFrame, cutMemory, remembered, announced, cutoverOf}
+use Rattle.turn.specs.Turn.{candidateDue, cutBy, heldDue, delayEnd, unconfirmed, assumed, confirmDue, holds, alone as turn·alone, lowStep, highStep, otherStep, itemStep}
+use Rattle.calls.specs.Open.{alone as calls·alone}
+use Rattle.pass.specs.Pass.{runItem, passOf}
+use Rattle.passes.specs.Passes.{passesOf, threePasses}
+use Rattle.closing.specs.Closing.{idleNow, testsOut, endsNow, startOut, offerOut, going, waitsFor, sealing, closing}
+use Rattle.poll.specs.Poll.{acceptedPoll, pollOf}
+use Rattle.deliver.specs.Deliver.{reaches, deliverOut, deliverInto}
+use Rattle.evidence.specs.Evidence.{blindTo, promptDue, staying, movesNow, heardFirst, heardCands, movedFirst, shortened, promptedNow, stayedNow, heardEpoch, unassumed, revertedPend, heardAny, onlyAssumed, confirming}
+use Rattle.hear.specs.Hear.{hearing, heardCurrent, revertOf, assumedHeard, confirmingHeard, heardPrevious}
+use Rattle.frame.specs.Frame.{pendingTag, slotTag, endedOut, pendOf, pendingFrame, currentFrame, previousFrame, slotFrame, frameOf}
+use Rattle.frames.specs.Frames.{heardTests, frameRefused, givenOf, frameAnswer}
+use Rattle.calls.specs.Blank.{noLadder, noFinal, noRepeats, noEpoch, noDrain, noAttempt, noPendI, noPendR, idle, noCandidates}
+use Rattle.calls.specs.Told.{belowHeld, toldTests, toldNumber, toldState, toldOf}
+
+-- ---- the run
+
+-- two handshake messages, no silence trigger, no shortest plaintext
+abbrev profile : Profile
+profile = record { messages = 2; «at_proof» = false; silence = false; smaller = false; floor = 0 }
+
+-- an epoch of a tag, begun at instant 0, without a lease
+abbrev epoch : ℕ → Epoch
+epoch tag =
+    record {
+      tag = tag;
+      session = tag;
+      sent = 0;
+      ids = record { lease = noIndex; theirs = noIndex; transport = 0 };
+      k = false;
+      responder = true;
+      base = never;
+      started = 0;
+      route = never;
+      ext = 0;
+      delegated = false;
+      floor = never;
+      heard = never;
+      moved = never;
+      assumed = false;
+      fin = noEpoch .fin;
+      elicit = noEpoch .elicit;
+      prompted = never;
+    }
+
+-- a current epoch of tag 1, and a responder's pending one of tag 2 until 100 s
+abbrev pair : State
+pair =
+    record {
+      mem = record {
+        «peer_epoch» = never;
+        «peer_k» = record { some = false; on = false };
+        jitter = pos 0;
+        damp = never;
+        backoff = never;
+        abandons = 0;
+        «last_rx» = never;
+        «rx_cur» = never;
+        «sent_data» = false;
+        silence = 0;
+        «link_since» = 0;
+        «last_cutover» = never;
+        «hs_rtt» = never;
+        srtt = never;
+        «setup_rto» = never;
+        reachable = true;
+        due = false;
+      };
+      cur = record { some = true; ep = epoch 1 };
+      drain = noDrain;
+      cycle = record { kind = 3; init = noAttempt; pendi = noPendI; pendr = record { ep = epoch 2; deadline = 100000; restart = false; answer = never } };
+      cands = noCandidates;
+    }
+
+abbrev pollAt : ℕ → ℕ → Call
+pollAt now extra = aPoll fmp profile now false (pos 0) extra
+
+-- an empty frame under the pending epoch
+abbrev heardPending : Call
+heardPending = aFrame fmp profile 2000 false (pos 0) (record { tag = 2; slot = 1; counter = 7; k = true; len = 0; probe = false }) 0 [] []
+
+abbrev answered : Call
+answered = aReply fmp profile 122001 (record { opened = true; hs = 1; msg = 2; transport = 3; lease = noIndex })
+
+-- the extra 16 is above the setting jitter, 15
+abbrev calls : List Call
+calls = pollAt 1500 0 ∷ heardPending ∷ pollAt 2500 16 ∷ pollAt 12000 0 ∷ pollAt 122000 0 ∷ answered ∷ pollAt 122002 0 ∷ []
+
+-- ---- the hypotheses
+
+in-order : Rises link calls
+in-order = (
+  (omega arith, λ p q. omega arith, (omega arith, λ p q. omega arith, (omega arith, λ p q. omega arith, (omega arith, λ p q. omega arith, (omega arith, λ p q. omega arith, (omega arith, λ p q. omega arith, tt)))))),
+  (
+    (omega arith, λ p q. omega arith, (omega arith, λ p q. omega arith, (omega arith, λ p q. omega arith, (omega arith, λ p q. omega arith, (omega arith, λ p q. omega arith, tt))))),
+    (
+      (omega arith, λ p q. omega arith, (omega arith, λ p q. omega arith, (omega arith, λ p q. omega arith, (omega arith, λ p q. omega arith, tt)))),
+      (
+        (omega arith, λ p q. omega arith, (omega arith, λ p q. omega arith, (omega arith, λ p q. omega arith, tt))),
+        ((omega arith, λ p q. omega arith, (omega arith, λ p q. omega arith, tt)), ((omega arith, λ p q. omega arith, tt), (tt, tt))),
+      ),
+    ),
+  ),
+)
+
+begun : (t : ℕ) → Early pair t
+unfolding noDrain
+begun t = record { link = omega arith; cutover = λ e. absurd (false≢true e); current = λ e. omega arith; own = λ e. absurd (false≢true e); peers = λ e. omega arith; drained = λ e. absurd (false≢true e) }
+
+early : EarlyFor link pair calls
+early = (begun 1500, (begun 2000, (begun 2500, (begun 12000, (begun 122000, (begun 122001, (begun 122002, tt)))))))
+
+-- ---- what one sees
+
+-- a line of the log for each call that says something
+abbrev lines : List (Entry Event)
+lines =
+    (record { kind = frame; at = 2000; said = gave (Mark 2 7 ∷ Installed 2 true 1 ∷ Prompt 2 ∷ Rekeyed true ∷ Deliver 0 2 0 0 ∷ []) none })
+    ∷ (record { kind = poll; at = 2500; said = back 7 0 })
+    ∷ (record { kind = poll; at = 12000; said = gave (Retired 1 ∷ []) (some 1) })
+    ∷ (record { kind = poll; at = 122000; said = gave (Start 0 ∷ []) (some 0) })
+    ∷ []
+
+-- the first and the last poll left out
+abbrev idle-polls : LeftOut link calls
+idle-polls = out refl (stays (stays (stays (stays (stays (out refl done))))))
+
+-- the poll that retires the drained epoch left out
+abbrev busy-poll : LeftOut link calls
+busy-poll = stays (stays (stays (out refl (stays (stays (stays done))))))
+
+-- the refused poll left out
+abbrev refused-poll : LeftOut link calls
+refused-poll = stays (stays (out refl (stays (stays (stays (stays done))))))
+
+pub record Seen : Type 0 where
+  pub passes : link .Ok pair
+  pub log : logOf link pair calls ≡ lines
+  pub idle : AllQuiet link pair idle-polls
+  -- the epoch is retired 110 seconds late, with the start
+  pub late : logOf link pair (second link busy-poll) ≡ (record { kind = frame; at = 2000; said = gave (Mark 2 7 ∷ Installed 2 true 1 ∷ Prompt 2 ∷ Rekeyed true ∷ Deliver 0 2 0 0 ∷ []) none }) ∷ (record { kind = poll; at = 2500; said = back 7 0 }) ∷ (record { kind = poll; at = 122000; said = gave (Retired 1 ∷ Start 0 ∷ []) (some 1) }) ∷ []
+  pub busy : quiet link (pollAt 12000 0) (endOf link pair (pollAt 1500 0 ∷ heardPending ∷ pollAt 2500 16 ∷ [])) ≡ false
+  pub refused : quiet link (pollAt 2500 16) (endOf link pair (pollAt 1500 0 ∷ heardPending ∷ [])) ≡ false
+  -- the wake is the pending epoch's deadline
+  pub wake : link .wake (pollAt 1500 0) pair ≡ some 100000
+  pub something : link .held pair ≡ true
+  pub goes-on : accepted link (pollAt 1500 0) pair ≡ true
+
+pub seen : Seen
+unfolding fold range kept takeWhile laterOf satAdd satMul least most factorOf backoffOf sumOf laterByOf soonerOf lostOf losing ladder·pushed events·pushed putOf ladder·offered listing·offered remaining nextAtOf dueRungs taking takeOf instantOf cut doubled doublingOf keepalives filled probesOf bitsOf laid madeOf rungAt ladder·heldOf candidates·heldOf rungsOf lastOf lastSendOf failing firstAt settings·placeOf candidates·placeOf lastOffset msg1Span confirmOf spanOf rungOf gapOf budgetOf firstMade finMade probesMade revertMade elicitMade delayedMade graceOf withHoldOf between candAt heldBy without expiredIn earliestOf chosen choosing others removedOf keptAfter clearedOf expireOf moved among repeated risesFrom itemsFrom opened listFrom before insert sorted listedIn pendingOf epochsOf epochLadders cycleLadders allLadders laddersOf ladderView epochView attemptView pendIView pendRView cycleView candidateView candidatesView memoryView stands at stored events·takenOf reply·takenOf placesOf held events·anyOf refusal·anyOf offeredIn anyFrom sealable wordsStay retireOut abandonOut offerable delegateOut triggerOf silenceInterval latestOf latestIn triggerAt silenceAt floorsPassed floorEnds dampedEnds backedEnds silenceWaits dampedNow backedNow triggeredNow scheduledNow silentNow kindOf scheduledWaits atOf mayStart startKind startAt calledFor ladderInstants mayInstants finInstants elicitInstants drainItems candidateItems pendingItems cycleItems currentItems named dueItems anyDue currentInstants standing openingIdle teardownStands offerOwed heldSomething exhausted cycleInstants storedInstants wakeInstants wakeOf rising profileBad isPending epochsBadOf numbersBad ladderBad laddersBad spreadBad first givenTests stateTests pollTests frameTests replyTests stateBack sharedOf tagsBad pendingEp standingBad eitherBad epochBad heldBad cycleBad isTag isOwn isPeers grace drainDue unadoptedDue lateFor probing probeDue delayedDue finTaken finDue elicitTaken elicitDue resendTaken resendDue abandonedMem expireDue prunes pruned demoted givenUp spent keptFin heardNow adopted heardFrame cutMemory remembered announced cutoverOf candidateDue cutBy heldDue delayEnd unconfirmed assumed confirmDue holds turn·alone calls·alone lowStep highStep otherStep itemStep fresh passItems runItem passOf passesOf threePasses idleNow testsOut endsNow startOut offerOut going waitsFor sealing closing acceptedPoll pollOf reaches deliverOut deliverInto blindTo promptDue staying movesNow heardFirst heardCands movedFirst shortened promptedNow stayedNow heardEpoch unassumed revertedPend heardAny onlyAssumed confirming hearing heardCurrent revertOf assumedHeard confirmingHeard heardPrevious pendingTag slotTag endedOut pendOf pendingFrame currentFrame previousFrame slotFrame frameOf heardTests frameRefused givenOf frameAnswer setupRtt setupFirst setupSched attemptSched attemptTime attemptOf raisesSilence silenceAfter memoryAfter startedOf repliedTests replyRefused replyOf noLadder noFinal noRepeats noEpoch noDrain noAttempt noPendI noPendR idle noCandidates belowHeld toldTests toldNumber toldState toldOf
+seen = record { passes = refl; log = refl; idle = (refl, (refl, tt)); late = refl; busy = refl; refused = refl; wake = refl; something = refl; goes-on = refl }
+
+-- ---- what the theorem gives
+
+-- the quiet polls may be left out: same log, same end state
+pub same : (logOf link pair calls ≡ logOf link pair (second link idle-polls)) × (endOf link pair calls ≡ endOf link pair (second link idle-polls))
+same = two-runs .holds .exactly pair calls idle-polls (seen .passes) in-order early .1 (seen .idle)
+
+-- the poll with a due item may not
+pub differs : (logOf link pair calls ≡ logOf link pair (second link busy-poll)) × (endOf link pair calls ≡ endOf link pair (second link busy-poll)) → ⊥
+differs p = true≢false (sym (two-runs .holds .exactly pair calls busy-poll (seen .passes) in-order early .0 p .0) ∙ seen .busy)
+
+-- nor the refused one
+pub tells : (logOf link pair calls ≡ logOf link pair (second link refused-poll)) × (endOf link pair calls ≡ endOf link pair (second link refused-poll)) → ⊥
+tells p = true≢false (sym (two-runs .holds .exactly pair calls refused-poll (seen .passes) in-order early .0 p .0) ∙ seen .refused)
+
+-- the wake clause at the first poll: the wake is later, so the poll is quiet
+pub sleeps : quiet link (pollAt 1500 0) pair ≡ true
+sleeps =
+    two-runs .holds .wakes pair [] (pollAt 1500 0) (heardPending ∷ pollAt 2500 16 ∷ pollAt 12000 0 ∷ pollAt 122000 0 ∷ answered ∷ pollAt 122002 0 ∷ [])
+    (seen .passes) in-order early refl (seen .goes-on) refl (seen .something) (subst (λ w. Late w 1500) (sym (seen .wake)) (omega arith))
