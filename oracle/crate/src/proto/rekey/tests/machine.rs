@@ -604,9 +604,27 @@ impl Shell {
 #[derive(Debug)]
 pub(crate) struct Done {
     pub(crate) events: Vec<Event>,
-    /// Of a poll, the items its passes listed.
-    pub(crate) count: usize,
+    /// Of a poll, the row of each item that its passes listed.
+    pub(crate) rows: Vec<&'static str>,
     pub(crate) state: State,
+}
+
+/// The row of the poll that an item is for.
+fn row(d: &Due) -> &'static str {
+    match d {
+        Due::Drain(_) => "drain",
+        Due::Candidate(_) => "candidate",
+        Due::Unadopted(_) => "unadopted",
+        Due::Held(_) => "held",
+        Due::Probe(_) => "probe",
+        Due::Delayed(_) => "delayed",
+        Due::Fin(_) => "fin",
+        Due::Elicit(_) => "elicit",
+        Due::Confirm(_) => "confirm",
+        Due::DelayEnd(_) => "delayend",
+        Due::Resend => "resend",
+        Due::Expire => "expire",
+    }
 }
 
 fn events<P: Numbers>(out: &Outputs<P>) -> Vec<Event> {
@@ -641,12 +659,12 @@ pub(crate) fn poll<P: Numbers>(g: Given<'_>, spread: i32, extra: u16) -> Done {
     if let Some((tag, before)) = listed.ended {
         all.insert(before, Event("ended", alloc::vec![Some(tag)]));
     }
-    Done { events: all, count: listed.count, state }
+    Done { events: all, rows: listed.rows, state }
 }
 
 /// What the passes of a poll did.
 struct Passes {
-    count: usize,
+    rows: Vec<&'static str>,
     /// What they told, after `withdraw`.
     events: Vec<Event>,
     /// The tag whose `PendR::end` touched the record, and how many of the
@@ -700,7 +718,7 @@ fn passes<P: Numbers>(g: Given<'_>, j: u16, draw: u16) -> Passes {
         (tag, before)
     });
     m.withdraw(&mut out);
-    Passes { count: done.len(), events: events(&out), ended: told, state: show(&m) }
+    Passes { rows: done.iter().map(row).collect(), events: events(&out), ended: told, state: show(&m) }
 }
 
 /// A frame's proof and where its plaintext goes.
@@ -758,7 +776,7 @@ pub(crate) fn frame<P: Numbers>(
         all.push(Event("ended", alloc::vec![ending]));
     }
     all.extend(events(&out));
-    Done { events: all, count: 0, state: show(&m) }
+    Done { events: all, rows: Vec::new(), state: show(&m) }
 }
 
 /// A fresh link, by the published `opening` and `install`.
@@ -793,7 +811,7 @@ pub(crate) fn open<P: Numbers>(
     let mut out = Outputs::new();
     m.install(now, ep, &mut Shell::new(workers, draw).env(), &mut out);
     m.withdraw(&mut out);
-    Done { events: events(&out), count: 0, state: show(&m) }
+    Done { events: events(&out), rows: Vec::new(), state: show(&m) }
 }
 
 /// Whether a start is called for at the instant: `start_kind` yields, and the

@@ -265,13 +265,15 @@ pub(crate) fn refusal(
 
 // ---- answers ----
 
-/// Append the lines of an accepted or sent-back call; the state it leaves,
-/// where it can leave one.
+/// Append the lines of an accepted or sent-back call, with `rows` a line
+/// `# NAME` for each item of a poll too; the state it leaves, where it can
+/// leave one.
 fn answer(
     cfg: &Cfg,
     profile: &Flags,
     s: Option<&State>,
     call: &Call,
+    rows: bool,
     text: &mut String,
 ) -> Option<State> {
     if let Some((number, place)) = refusal(cfg, profile, s, call) {
@@ -301,7 +303,10 @@ fn answer(
             let g = given(s?, now, workers);
             let done = by_profile!(profile, false, poll(g, spread as i32, extra as u16));
             events(&done, text);
-            _ = writeln!(text, "= count {}", done.count);
+            _ = writeln!(text, "= count {}", done.rows.len());
+            for row in done.rows.iter().filter(|_| rows) {
+                _ = writeln!(text, "# {row}");
+            }
             Some(done.state)
         }
         Call::Frame { now, proof, workers, spread, target, source } => {
@@ -354,7 +359,7 @@ fn answer(
 
 /// The state that an accepted call leaves, of those that can leave one.
 pub(super) fn leaves_behind(cfg: &Cfg, profile: &Flags, s: &State, call: &Call) -> Option<State> {
-    answer(cfg, profile, Some(s), call, &mut String::new())
+    answer(cfg, profile, Some(s), call, false, &mut String::new())
 }
 
 /// The wake of an accepted state.
@@ -390,7 +395,7 @@ fn put_state(s: &State, text: &mut String) {
     text.push('\n');
 }
 
-fn answers() {
+fn answers(rows: bool) {
     let mut block = Block::default();
     filter(|line, text| {
         let Some(line) = line else {
@@ -427,7 +432,7 @@ fn answers() {
                 if block.state.is_none() && !opens {
                     f.bad("a state is missing before");
                 }
-                let left = answer(cfg, profile, block.state.as_ref(), &call, text);
+                let left = answer(cfg, profile, block.state.as_ref(), &call, rows, text);
                 if let Some(left) = left {
                     if block.run {
                         block.state = Some(left);
@@ -443,7 +448,8 @@ fn answers() {
 pub(crate) fn main() {
     let args = arguments();
     match args.first().map_or("", String::as_str) {
-        "answer" => answers(),
+        "answer" => answers(false),
+        "rows" => answers(true),
         "random" => {
             let kind = args.get(1).map_or("", String::as_str);
             let (seed, count): (u64, u64) = (number(&args, 2), number(&args, 3));
@@ -463,7 +469,7 @@ pub(crate) fn main() {
 
 fn usage() -> ! {
     eprintln!(
-        "machine [--fault NAME] answer | random single|runs|refusals|opens SEED COUNT | --faults"
+        "machine [--fault NAME] answer | rows | random single|runs|refusals|opens SEED COUNT | --faults"
     );
     std::process::exit(2);
 }
