@@ -1,0 +1,12 @@
+use mir.Facts.{toZ-ofZ}
+use Rattle.link.proofs.siklyavon_open.Statement.{statement}
+use Rattle.link.proofs.siklyavon_open.Tie as tie
+
+open-requires : tie.Need-open-requires
+open-requires c κs = tt
+
+returns : tie.Need-returns
+returns c = simp (toZ-ofZ (c .before .before .fits .spread)) at (c .open .ensures)
+
+pub siklyavon-open-spec : {M : Type 1} → statement M
+siklyavon-open-spec = tie.close (tie.spec open-requires returns)

@@ -1,0 +1,12 @@
+use mir.Facts.{toZ-ofZ}
+use Rattle.link.proofs.siklyavon_poll.Statement.{statement}
+use Rattle.link.proofs.siklyavon_poll.Tie as tie
+
+poll-requires : tie.Need-poll-requires
+poll-requires c κs = tt
+
+returns : tie.Need-returns
+returns c = (simp (toZ-ofZ (c .before .before .fits .spread)) at (c .poll .ensures .0), c .poll .ensures .1)
+
+pub siklyavon-poll-spec : {M : Type 1} → statement M
+siklyavon-poll-spec = tie.close (tie.spec poll-requires returns)

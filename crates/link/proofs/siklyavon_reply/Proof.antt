@@ -1,0 +1,12 @@
+use Rattle.poll.proofs.Holds.{two-runs}
+use Rattle.link.proofs.siklyavon_reply.Statement.{statement}
+use Rattle.link.proofs.siklyavon_reply.Tie as tie
+
+reply-requires : tie.Need-reply-requires
+reply-requires c κs = tt
+
+returns : tie.Need-returns
+returns c = (c .reply .ensures, two-runs)
+
+pub siklyavon-reply-spec : {M : Type 1} → statement M
+siklyavon-reply-spec = tie.close (tie.spec reply-requires returns)

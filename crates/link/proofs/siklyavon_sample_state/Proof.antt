@@ -1,0 +1,12 @@
+use mir.Facts.{toZ-ofZ}
+use Rattle.link.proofs.siklyavon_sample_state.Statement.{statement}
+use Rattle.link.proofs.siklyavon_sample_state.Tie as tie
+
+whole-requires : tie.Need-whole-requires
+whole-requires c κs = tt
+
+returns : tie.Need-returns
+returns c = simp (toZ-ofZ (c .before .fits .spread)) at (c .whole .ensures)
+
+pub siklyavon-sample-state-spec : {M : Type 1} → statement M
+siklyavon-sample-state-spec = tie.close (tie.spec whole-requires returns)

@@ -1,0 +1,12 @@
+use Rattle.poll.proofs.Holds.{two-runs}
+use Rattle.link.proofs.siklyavon_sent.Statement.{statement}
+use Rattle.link.proofs.siklyavon_sent.Tie as tie
+
+told-requires : tie.Need-told-requires
+told-requires c κs = tt
+
+returns : tie.Need-returns
+returns c = (c .told .ensures, two-runs)
+
+pub siklyavon-sent-spec : {M : Type 1} → statement M
+siklyavon-sent-spec = tie.close (tie.spec told-requires returns)

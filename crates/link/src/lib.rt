@@ -1,0 +1,217 @@
+// The calls of a link, exported for Rust and C: each is the proved call and promises what that call
+// promises. Records cross by value, laid out as C does; no enum crosses; the log and a frame's two
+// buffers are lent.
+ghost use mathlib.Core.Path.{_≡_};
+ghost use Rattle.events.specs.Log.{at, logged};
+ghost use Rattle.settings.specs.Settings.{placeOf};
+ghost use Rattle.calls.specs.Open.{openOf};
+ghost use Rattle.calls.specs.Told.{toldOf};
+ghost use Rattle.calls.specs.Read.{wokeOf, statusOf};
+ghost use Rattle.sample.specs.Sample.{wholeOf, valuesOf, flagsOf, besideOf, proofOf, answerOf};
+ghost use Rattle.frames.specs.Frames.{frameAnswer};
+ghost use Rattle.reply.specs.Reply.{replyOf};
+ghost use Rattle.poll.specs.Poll.{pollOf};
+ghost use Rattle.poll.specs.Answer.{Answers};
+ghost use Rattle.poll.specs.Link.{TwoRuns};
+ghost use Rattle.link.specs.Quiet.{Tells};
+use calls::Counted;
+use calls::Opened;
+use calls::Shown;
+use calls::Woke;
+use epoch::Index;
+use frame::FrameProof;
+use frames::Heard;
+use poll::Polled;
+use reply::Replied;
+use reply::StartReply;
+use settings::Config;
+use state::Given;
+use state::Profile;
+use state::State;
+
+// The place of the first check that refuses the settings, from 1; 0 where they are accepted.
+#[no_mangle]
+pub extern "C" fn siklyavon_settings(cfg: Config) -> u8
+    ensures { λ r. ⌜ r ≡ placeOf cfg ⌝ }
+{
+    settings::place(cfg)
+}
+
+// A fresh link at its instant.
+#[no_mangle]
+pub extern "C" fn siklyavon_open(
+    cfg: Config,
+    p: Profile,
+    responder: bool,
+    transport: u64,
+    lease: Index,
+    workers: bool,
+    spread: i32,
+    time: u64,
+    log: &mut [u64; 768],
+) -> Opened
+    ensures { λ r. ⌜ (r .number ≡ openOf cfg p responder transport lease workers spread time .number) × ((r .place ≡ openOf cfg p responder transport lease workers spread time .place) × ((r .state ≡ openOf cfg p responder transport lease workers spread time .state) × (at (r .len) (now (log .exit)) ≡ logged (at 0 (now (log .entry))) (openOf cfg p responder transport lease workers spread time .out)))) ⌝ }
+{
+    calls::open(
+        cfg,
+        p,
+        responder,
+        transport,
+        lease,
+        workers,
+        spread,
+        time,
+        log,
+    )
+}
+
+// A poll at `time`. The log takes the events; a poll that is sent back leaves it as it was.
+#[no_mangle]
+pub extern "C" fn siklyavon_poll(
+    s: State,
+    cfg: Config,
+    p: Profile,
+    time: u64,
+    workers: bool,
+    spread: i32,
+    extra: u32,
+    log: &mut [u64; 768],
+) -> Polled
+    ensures poll { λ r. ⌜ Answers (pollOf s cfg p time workers spread extra) r (now (log .entry)) (now (log .exit)) ⌝ }
+    ensures runs { λ r. ⌜ TwoRuns ⌝ }
+{
+    poll::poll(s, cfg, p, time, workers, spread, extra, log)
+}
+
+// A frame that authenticated. Its plaintext is at the front of the source; the target takes what is
+// delivered.
+#[no_mangle]
+pub extern "C" fn siklyavon_frame(
+    s: State,
+    cfg: Config,
+    profile: Profile,
+    time: u64,
+    workers: bool,
+    spread: i32,
+    p: FrameProof,
+    body: usize,
+    source: &[u8],
+    target: &mut [u8],
+    log: &mut [u64; 768],
+) -> Heard
+    ensures frame { λ r. ⌜ (r .number ≡ frameAnswer s cfg profile time workers spread p body (now (source .entry)) (now (target .entry)) .number) × ((r .place ≡ frameAnswer s cfg profile time workers spread p body (now (source .entry)) (now (target .entry)) .place) × ((r .state ≡ frameAnswer s cfg profile time workers spread p body (now (source .entry)) (now (target .entry)) .state) × ((now (target .exit) ≡ frameAnswer s cfg profile time workers spread p body (now (source .entry)) (now (target .entry)) .target) × (at (r .len) (now (log .exit)) ≡ logged (at 0 (now (log .entry))) (frameAnswer s cfg profile time workers spread p body (now (source .entry)) (now (target .entry)) .out))))) ⌝ }
+    ensures runs { λ r. ⌜ TwoRuns ⌝ }
+{
+    frames::frame(
+        s,
+        cfg,
+        profile,
+        time,
+        workers,
+        spread,
+        p,
+        body,
+        source,
+        target,
+        log,
+    )
+}
+
+// The answer to a START: whether an attempt was opened, and its numbers.
+#[no_mangle]
+pub extern "C" fn siklyavon_reply(
+    s: State,
+    cfg: Config,
+    profile: Profile,
+    time: u64,
+    r: StartReply,
+) -> Replied
+    ensures reply { λ a. ⌜ a ≡ replyOf s cfg profile time r ⌝ }
+    ensures runs { λ a. ⌜ TwoRuns ⌝ }
+{
+    reply::reply(s, cfg, profile, time, r)
+}
+
+// The current epoch's sent count is told.
+#[no_mangle]
+pub extern "C" fn siklyavon_sent(s: State, count: u64) -> Counted
+    ensures sent { λ r. ⌜ r ≡ toldOf s count ⌝ }
+    ensures runs { λ r. ⌜ TwoRuns ⌝ }
+{
+    calls::told(s, count)
+}
+
+// The earliest instant at which a poll has work.
+#[no_mangle]
+pub extern "C" fn siklyavon_wake(s: State, cfg: Config, p: Profile) -> Woke
+    ensures { λ r. ⌜ r ≡ wokeOf s cfg p ⌝ }
+{
+    calls::wake(s, cfg, p)
+}
+
+// The link line.
+#[no_mangle]
+pub extern "C" fn siklyavon_status(s: State, cfg: Config, p: Profile, time: u64) -> Shown
+    ensures { λ r. ⌜ r ≡ statusOf s cfg p time ⌝ }
+{
+    calls::status(s, cfg, p, time)
+}
+
+// Whether a poll of the lent state would have none of the four: an item due, a start called for, a
+// teardown, an offer owed. Where it says so, an accepted poll gives the state back, with no event and
+// count 0. The state is read where it stands: what is copied of it is what the test reads.
+#[no_mangle]
+pub extern "C" fn siklyavon_quiet(s: &State, g: Given) -> bool
+    ensures { λ r. ⌜ Tells (now (s .entry)) g r ⌝ }
+{
+    let whole = *s;
+    glance::still(whole, g)
+}
+
+// A sample of the record, for the caller's layout.
+#[no_mangle]
+pub extern "C" fn siklyavon_sample_state(spread: i32) -> State
+    ensures { λ r. ⌜ r ≡ wholeOf spread ⌝ }
+{
+    sample::whole(spread)
+}
+
+// A sample of the record, for the caller's layout.
+#[no_mangle]
+pub extern "C" fn siklyavon_sample_config() -> Config
+    ensures { λ r. ⌜ r ≡ valuesOf ⌝ }
+{
+    sample::values()
+}
+
+// A sample of the record, for the caller's layout.
+#[no_mangle]
+pub extern "C" fn siklyavon_sample_profile() -> Profile
+    ensures { λ r. ⌜ r ≡ flagsOf ⌝ }
+{
+    sample::flags()
+}
+
+// A sample of the record, for the caller's layout.
+#[no_mangle]
+pub extern "C" fn siklyavon_sample_given() -> Given
+    ensures { λ r. ⌜ r ≡ besideOf ⌝ }
+{
+    sample::beside()
+}
+
+// A sample of the record, for the caller's layout.
+#[no_mangle]
+pub extern "C" fn siklyavon_sample_proof() -> FrameProof
+    ensures { λ r. ⌜ r ≡ proofOf ⌝ }
+{
+    sample::proof()
+}
+
+// A sample of the record, for the caller's layout.
+#[no_mangle]
+pub extern "C" fn siklyavon_sample_reply() -> StartReply
+    ensures { λ r. ⌜ r ≡ answerOf ⌝ }
+{
+    sample::answer()
+}
