@@ -23,7 +23,7 @@ use Rattle.state.specs.declared.Profile.{Profile}
 use Rattle.state.specs.Parts.{putCur, pendingOf, epochsOf, epochLadders, cycleLadders, allLadders, laddersOf}
 use Rattle.events.specs.Events.{Event, Installed, Prompt, Delegate, Bind}
 use Rattle.events.specs.Numbers.{purposeCurrent}
-use Rattle.retire.specs.Retire.{only, offerable, delegateOut}
+use Rattle.retire.specs.Retire.{only, offerable, floorTold, delegateOut}
 use Rattle.refusal.specs.Refusal.{anyOf, isPending, epochsBadOf, epochsBad, candsBad, numbersBad, laddersBad, first, by, stateTests, stateBack, beforeOpen}
 use Rattle.refusal.specs.First.{rising, backAt, backBelow, exactly}
 use Rattle.calls.specs.declared.Counted.{Counted}
@@ -73,7 +73,7 @@ few e workers =
     (omega (
       arith,
       only-one (e .ids .lease .some) (Bind (e .ids .transport) (e .ids .lease .index) (at (e .tag)) purposeCurrent),
-      only-one (pick workers (offerable e) false) (Delegate (e .tag) (e .ids .transport) (e .ids .lease .index) (e .session) (e .floor)),
+      only-one (pick workers (offerable e) false) (Delegate (e .tag) (e .ids .transport) (e .ids .lease .index) (e .session) (floorTold (e .floor))),
       only-one (e .responder) (Prompt (e .tag)),
     ))
 

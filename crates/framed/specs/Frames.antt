@@ -33,7 +33,7 @@ use Rattle.framed.specs.Revert.{previous-sound, previous-early}
 -- ---- the slots
 
 -- a pending epoch is held in one of two roles
-pending-role : {A : Type 0} (c : Cycle) → pendingTag c .some ≡ true → (isPendI (c .kind) ≡ true → A) → (isPendR (c .kind) ≡ true → A) → A
+pub pending-role : {A : Type 0} (c : Cycle) → pendingTag c .some ≡ true → (isPendI (c .kind) ≡ true → A) → (isPendR (c .kind) ≡ true → A) → A
 unfolding pendingTag
 pending-role c h f g = under (isPendI (c .kind)) (isPendR (c .kind)) f g h
   where
@@ -43,11 +43,11 @@ pending-role c h f g = under (isPendI (c .kind)) (isPendR (c .kind)) f g h
     under false false f g h = absurd (false≢true h)
 
 -- what a slot of that number holds
-slot-pending : (s : State) (slot : ℕ) → eqb slot 1 ≡ true → slotTag s slot .some ≡ true → pendingTag (s .cycle) .some ≡ true
+pub slot-pending : (s : State) (slot : ℕ) → eqb slot 1 ≡ true → slotTag s slot .some ≡ true → pendingTag (s .cycle) .some ≡ true
 unfolding slotTag
 slot-pending s slot e h = sym (ap (λ n. slotTag s n .some) (eqb-true slot 1 e)) ∙ h
 
-slot-previous : (s : State) (slot : ℕ) → eqb slot 1 ≡ false → eqb slot 0 ≡ false → slotTag s slot .some ≡ true → s .drain .some ≡ true
+pub slot-previous : (s : State) (slot : ℕ) → eqb slot 1 ≡ false → eqb slot 0 ≡ false → slotTag s slot .some ≡ true → s .drain .some ≡ true
 unfolding slotTag
 slot-previous s slot p q h = under (eqb slot 0) (eqb slot 1) (eqb slot 2) q p h
   where
@@ -140,7 +140,7 @@ slot-held s slot tag z = under (slotTag s slot .some) (eqb (slotTag s slot .at) 
     under true b z = refl
     under false b z = absurd (omega (arith, z))
 
-taken-held : (s : State) (cfg : Config) (profile : Profile) (spread : ℤ) (slot tag : ℕ) → eqb (frameRefused s cfg profile spread slot tag .number) 0 ≡ true → slotTag s slot .some ≡ true
+pub taken-held : (s : State) (cfg : Config) (profile : Profile) (spread : ℤ) (slot tag : ℕ) → eqb (frameRefused s cfg profile spread slot tag .number) 0 ≡ true → slotTag s slot .some ≡ true
 taken-held s cfg profile spread slot tag e =
     slot-held s slot tag (under (eqb (beforeFrame s cfg profile spread .number) 0) refl (sym (ap (λ (r : Refused). r .number) (frame-refused s cfg profile spread slot tag)) ∙ eqb-true (frameRefused s cfg profile spread slot tag .number) 0 e))
   where

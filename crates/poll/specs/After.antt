@@ -22,7 +22,7 @@ use Rattle.wake.specs.Due.{someIn}
 use Rattle.wake.specs.Wake.{exhausted}
 use Rattle.wake.specs.Quiet.{openingIdle, teardownStands, offerOwed}
 use Rattle.wake.specs.Quiet.{offerable as owedFor}
-use Rattle.retire.specs.Retire.{only, offerable, delegateOut}
+use Rattle.retire.specs.Retire.{only, offerable, floorTold, delegateOut}
 use Rattle.closing.specs.Logs.{tests-most, going-most}
 use Rattle.closing.specs.Closing.{idleNow, testsOut, endsNow, startOut, offerOut, offering, going, waitsFor, sealing, closing}
 
@@ -58,7 +58,7 @@ module _ (cur pend : When) where
 -- ---- an offer, where no event made it yet
 
 offer : Epoch → Event
-offer e = Delegate (e .tag) (e .ids .transport) (e .ids .lease .index) (e .session) (e .floor)
+offer e = Delegate (e .tag) (e .ids .transport) (e .ids .lease .index) (e .session) (floorTold (e .floor))
 
 offer-first : (some : Bool) (e : Epoch) (workers : Bool) → offerOut some e workers [] ≡ only (workers && (some && owedFor e)) (offer e)
 unfolding offerOut delegateOut offerable anyOf offer

@@ -4,5 +4,6 @@ pub mod Answer
 pub mod After
 pub mod Laws
 pub mod Late
+pub mod Agree
 pub mod Runs
 pub mod Link

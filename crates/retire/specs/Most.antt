@@ -7,7 +7,7 @@ use Rattle.time.specs.Pick.{pick}
 use Rattle.epoch.specs.declared.Epoch.{Epoch}
 use Rattle.cycle.specs.declared.Attempt.{Attempt}
 use Rattle.events.specs.Events.{Event, Unbind, Revoke, Release, Delegate}
-use Rattle.retire.specs.Retire.{only, retireOut, abandonOut, offerable, delegateOut}
+use Rattle.retire.specs.Retire.{only, retireOut, abandonOut, offerable, floorTold, delegateOut}
 
 pub only-most : (b : Bool) (e : Event) → length (only b e) ≤ 1
 only-most true e = omega arith
@@ -32,4 +32,4 @@ abandon-most a cause =
 
 pub delegate-most : (e : Epoch) (workers : Bool) → length (delegateOut e workers) ≤ 1
 unfolding delegateOut
-delegate-most e workers = only-most (pick workers (offerable e) false) (Delegate (e .tag) (e .ids .transport) (e .ids .lease .index) (e .session) (e .floor))
+delegate-most e workers = only-most (pick workers (offerable e) false) (Delegate (e .tag) (e .ids .transport) (e .ids .lease .index) (e .session) (floorTold (e .floor)))

@@ -204,20 +204,44 @@ seen = record { passes = refl; log = refl; idle = (refl, (refl, tt)); late = ref
 
 -- ---- what the theorem gives
 
--- the quiet polls may be left out: same log, same end state
-pub same : (logOf link pair calls ≡ logOf link pair (second link idle-polls)) × (endOf link pair calls ≡ endOf link pair (second link idle-polls))
-same = two-runs .holds .exactly pair calls idle-polls (seen .passes) in-order early .1 (seen .idle)
+-- the quiet polls may be left out: same log, same end state, as a record too
+pub same : (logOf link pair calls ≡ logOf link pair (second link idle-polls)) × (stands (endOf link pair calls) ≡ stands (endOf link pair (second link idle-polls)))
+same = two-runs .holds .exactly pair calls idle-polls in-order .1 (seen .idle)
+
+pub same-record : endOf link pair calls ≡ endOf link pair (second link idle-polls)
+same-record = two-runs .holds .records pair calls idle-polls (seen .idle)
 
 -- the poll with a due item may not
-pub differs : (logOf link pair calls ≡ logOf link pair (second link busy-poll)) × (endOf link pair calls ≡ endOf link pair (second link busy-poll)) → ⊥
-differs p = true≢false (sym (two-runs .holds .exactly pair calls busy-poll (seen .passes) in-order early .0 p .0) ∙ seen .busy)
+pub differs : (logOf link pair calls ≡ logOf link pair (second link busy-poll)) → ⊥
+differs p = true≢false (sym (two-runs .holds .logs pair calls busy-poll in-order p .0) ∙ seen .busy)
 
 -- nor the refused one
-pub tells : (logOf link pair calls ≡ logOf link pair (second link refused-poll)) × (endOf link pair calls ≡ endOf link pair (second link refused-poll)) → ⊥
-tells p = true≢false (sym (two-runs .holds .exactly pair calls refused-poll (seen .passes) in-order early .0 p .0) ∙ seen .refused)
+pub tells : (logOf link pair calls ≡ logOf link pair (second link refused-poll)) → ⊥
+tells p = true≢false (sym (two-runs .holds .logs pair calls refused-poll in-order p .0) ∙ seen .refused)
 
 -- the wake clause at the first poll: the wake is later, so the poll is quiet
 pub sleeps : quiet link (pollAt 1500 0) pair ≡ true
 sleeps =
     two-runs .holds .wakes pair [] (pollAt 1500 0) (heardPending ∷ pollAt 2500 16 ∷ pollAt 12000 0 ∷ pollAt 122000 0 ∷ answered ∷ pollAt 122002 0 ∷ [])
     (seen .passes) in-order early refl (seen .goes-on) refl (seen .something) (subst (λ w. Late w 1500) (sym (seen .wake)) (omega arith))
+
+-- ---- what stands decides
+
+-- the same state, with something else behind the drain's flag and in the attempt that is not open
+abbrev littered : State
+littered =
+    record {
+      mem = pair .mem;
+      cur = pair .cur;
+      drain = record { some = false; ep = epoch 7; deadline = 5; evidenced = true };
+      cycle = record { kind = 3; init = record { hs = 1; out = 2; lease = noIndex; transport = 3; first = 4; ladder = noEpoch .fin .ladder; deadline = 5; resent = true }; pendi = noPendI; pendr = pair .cycle .pendr };
+      cands = pair .cands;
+    }
+
+one : stands pair ≡ stands littered
+unfolding stands cycleView noDrain noEpoch
+one = refl
+
+-- the log of the run from there is the same
+pub one-log : logOf link littered calls ≡ lines
+one-log = sym (two-runs .holds .one-state pair littered calls one .0) ∙ seen .log
