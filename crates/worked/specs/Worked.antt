@@ -1,5 +1,6 @@
--- Demand 3 applied to one run, with a quiet poll, a cutover by a frame, a refused poll, a due item, a
--- start and its reply: the hypotheses are met, and the theorem gives what one sees by running it.
+-- Demand 3 applied to one run that has every kind of call, quiet polls, a refused one, and one for each
+-- of the four conditions: an item due, a start called for, a teardown standing, an offer owed. The
+-- hypotheses are met, and the theorem gives what one sees by running it.
 use Prim.Native.Nat.{ℕ, _≤_, _<_}
 use mathlib.Core.Path.{_≡_, refl, sym, _∙_, subst}
 use mathlib.Core.Bool.{Bool, true, false, true≢false, false≢true}
@@ -14,13 +15,14 @@ use Rattle.epoch.specs.declared.Epoch.{Epoch}
 use Rattle.epoch.specs.declared.Index.{Index}
 use Rattle.state.specs.declared.State.{State}
 use Rattle.state.specs.declared.Profile.{Profile}
-use Rattle.events.specs.Events.{Event, Mark, Deliver, Installed, Rekeyed, Retired, Prompt, Start}
+use Rattle.events.specs.Events.{Event, Mark, Deliver, Delegate, Installed, Rekeyed, Retired, Prompt, Teardown, Start}
+use Rattle.events.specs.Numbers.{slotCurrent, evidenceFrame, teardownCounterExhausted, startScheduled}
 use Rattle.frame.specs.declared.FrameProof.{FrameProof}
 use Rattle.reply.specs.declared.StartReply.{StartReply}
 use Rattle.calls.specs.Blank.{noEpoch, noAttempt, noPendI, noCandidates, noDrain, noIndex}
 use Rattle.early.specs.Early.{Early}
-use Rattle.poll.specs.Runs.{poll, frame, reply, sent, back, gave, Entry, LeftOut, done, stays, out, logOf, second, endOf, AllQuiet, Rises, EarlyFor, Late, accepted, quiet}
-use Rattle.poll.specs.Link.{Call, aPoll, aFrame, aReply, link}
+use Rattle.poll.specs.Runs.{poll, frame, reply, sent, back, gave, Entry, LeftOut, done, stays, out, logOf, second, endOf, AllQuiet, After, Rises, EarlyFor, Late, accepted, quiet}
+use Rattle.poll.specs.Link.{Call, aPoll, aFrame, aReply, aSent, link}
 use Rattle.poll.proofs.Holds.{two-runs}
 use Rattle.time.specs.Lists.{fold, range, kept, takeWhile}
 use Rattle.time.specs.Time.{laterOf, satAdd, satMul, least, most, factorOf, backoffOf, sumOf, laterByOf, soonerOf}
@@ -71,14 +73,14 @@ use Rattle.calls.specs.Told.{belowHeld, toldTests, toldNumber, toldState, toldO
 abbrev profile : Profile
 profile = record { messages = 2; «at_proof» = false; silence = false; smaller = false; floor = 0 }
 
--- an epoch of a tag, begun at instant 0, without a lease
-abbrev epoch : ℕ → Epoch
-epoch tag =
+-- an epoch of a tag, begun at instant 0, with a lease or none
+abbrev epoch : ℕ → Index → Epoch
+epoch tag lease =
     record {
       tag = tag;
       session = tag;
       sent = 0;
-      ids = record { lease = noIndex; theirs = noIndex; transport = 0 };
+      ids = record { lease = lease; theirs = noIndex; transport = 0 };
       k = false;
       responder = true;
       base = never;
@@ -95,7 +97,8 @@ epoch tag =
       prompted = never;
     }
 
--- a current epoch of tag 1, and a responder's pending one of tag 2 until 100 s
+-- a current epoch of tag 1 without a lease, and a responder's pending one of tag 2 with lease 9, until
+-- 100 s
 abbrev pair : State
 pair =
     record {
@@ -118,89 +121,171 @@ pair =
         reachable = true;
         due = false;
       };
-      cur = record { some = true; ep = epoch 1 };
+      cur = record { some = true; ep = epoch 1 noIndex };
       drain = noDrain;
-      cycle = record { kind = 3; init = noAttempt; pendi = noPendI; pendr = record { ep = epoch 2; deadline = 100000; restart = false; answer = never } };
+      cycle = record { kind = 3; init = noAttempt; pendi = noPendI; pendr = record { ep = epoch 2 (record { some = true; index = 9 }); deadline = 100000; restart = false; answer = never } };
       cands = noCandidates;
     }
 
-abbrev pollAt : ℕ → ℕ → Call
-pollAt now extra = aPoll fmp profile now false (pos 0) extra
+abbrev pollAt : ℕ → Call
+pollAt now = aPoll fmp profile now false (pos 0) 0
 
 -- an empty frame under the pending epoch
 abbrev heardPending : Call
 heardPending = aFrame fmp profile 2000 false (pos 0) (record { tag = 2; slot = 1; counter = 7; k = true; len = 0; probe = false }) 0 [] []
 
+-- the extra 16 is above the setting jitter, 15
+abbrev badDraw : Call
+badDraw = aPoll fmp profile 2500 false (pos 0) 16
+
+-- a poll with workers
+abbrev withWorkers : Call
+withWorkers = aPoll fmp profile 3000 true (pos 0) 0
+
 abbrev answered : Call
 answered = aReply fmp profile 122001 (record { opened = true; hs = 1; msg = 2; transport = 3; lease = noIndex })
 
--- the extra 16 is above the setting jitter, 15
+-- as many as the setting `hard`
+abbrev exhaustedAt : ℕ → Call
+exhaustedAt now = aSent now (fmp .hard)
+
 abbrev calls : List Call
-calls = pollAt 1500 0 ∷ heardPending ∷ pollAt 2500 16 ∷ pollAt 12000 0 ∷ pollAt 122000 0 ∷ answered ∷ pollAt 122002 0 ∷ []
+calls =
+    pollAt 1500
+    ∷ heardPending
+    ∷ badDraw
+    ∷ withWorkers
+    ∷ pollAt 12000
+    ∷ pollAt 122000
+    ∷ answered
+    ∷ pollAt 122002
+    ∷ exhaustedAt 122003
+    ∷ pollAt 122004
+    ∷ []
 
 -- ---- the hypotheses
 
-in-order : Rises link calls
-in-order = (
-  (omega arith, λ p q. omega arith, (omega arith, λ p q. omega arith, (omega arith, λ p q. omega arith, (omega arith, λ p q. omega arith, (omega arith, λ p q. omega arith, (omega arith, λ p q. omega arith, tt)))))),
-  (
-    (omega arith, λ p q. omega arith, (omega arith, λ p q. omega arith, (omega arith, λ p q. omega arith, (omega arith, λ p q. omega arith, (omega arith, λ p q. omega arith, tt))))),
-    (
-      (omega arith, λ p q. omega arith, (omega arith, λ p q. omega arith, (omega arith, λ p q. omega arith, (omega arith, λ p q. omega arith, tt)))),
-      (
-        (omega arith, λ p q. omega arith, (omega arith, λ p q. omega arith, (omega arith, λ p q. omega arith, tt))),
-        ((omega arith, λ p q. omega arith, (omega arith, λ p q. omega arith, tt)), ((omega arith, λ p q. omega arith, tt), (tt, tt))),
-      ),
-    ),
-  ),
-)
+-- each instant is above the one before it
+abbrev Ascends : ℕ → List Call → Type 0
+Ascends t [] = Unit {0}
+Ascends t (c ∷ cs) = (t < link .atOf c) × Ascends (link .atOf c) cs
 
+after : (c : Call) (t : ℕ) (cs : List Call) → link .atOf c ≤ t → Ascends t cs → After link c cs
+after c t [] h a = tt
+after c t (d ∷ ds) h a = (omega (arith, h, a .0), λ p q. omega (arith, h, a .0), after c (link .atOf d) ds (omega (arith, h, a .0)) (a .1))
+
+rises : (t : ℕ) (cs : List Call) → Ascends t cs → Rises link cs
+rises t [] a = tt
+rises t (c ∷ cs) a = (after c (link .atOf c) cs (omega arith) (a .1), rises (link .atOf c) cs (a .1))
+
+in-order : Rises link calls
+in-order =
+    rises 0 calls
+    (omega arith, (omega arith, (omega arith, (omega arith, (omega arith, (omega arith, (omega arith, (omega arith, (omega arith, (omega arith, tt))))))))))
+
+-- every start of the first state is 0
 begun : (t : ℕ) → Early pair t
 unfolding noDrain
 begun t = record { link = omega arith; cutover = λ e. absurd (false≢true e); current = λ e. omega arith; own = λ e. absurd (false≢true e); peers = λ e. omega arith; drained = λ e. absurd (false≢true e) }
 
-early : EarlyFor link pair calls
-early = (begun 1500, (begun 2000, (begun 2500, (begun 12000, (begun 122000, (begun 122001, (begun 122002, tt)))))))
+early : (cs : List Call) → EarlyFor link pair cs
+early [] = tt
+early (c ∷ cs) = (begun (link .atOf c), early cs)
 
 -- ---- what one sees
+
+-- what the frame tells: a cutover by frame
+abbrev cutFrame : Entry Event
+cutFrame = record { kind = frame; at = 2000; said = gave (Mark 2 7 ∷ Installed 2 true evidenceFrame ∷ Prompt 2 ∷ Rekeyed true ∷ Deliver slotCurrent 2 0 0 ∷ []) none }
+
+abbrev refusedDraw : Entry Event
+refusedDraw = record { kind = poll; at = 2500; said = back 7 0 }
+
+abbrev offerMade : Entry Event
+offerMade = record { kind = poll; at = 3000; said = gave (Delegate 2 0 9 2 never ∷ []) (some 0) }
+
+abbrev exhaustion : Entry Event
+exhaustion = record { kind = poll; at = 122004; said = gave (Teardown teardownCounterExhausted ∷ []) (some 0) }
 
 -- a line of the log for each call that says something
 abbrev lines : List (Entry Event)
 lines =
-    (record { kind = frame; at = 2000; said = gave (Mark 2 7 ∷ Installed 2 true 1 ∷ Prompt 2 ∷ Rekeyed true ∷ Deliver 0 2 0 0 ∷ []) none })
-    ∷ (record { kind = poll; at = 2500; said = back 7 0 })
+    cutFrame
+    ∷ refusedDraw
+    ∷ offerMade
     ∷ (record { kind = poll; at = 12000; said = gave (Retired 1 ∷ []) (some 1) })
-    ∷ (record { kind = poll; at = 122000; said = gave (Start 0 ∷ []) (some 0) })
+    ∷ (record { kind = poll; at = 122000; said = gave (Start startScheduled ∷ []) (some 0) })
+    ∷ exhaustion
     ∷ []
 
--- the first and the last poll left out
+-- the two quiet polls left out
 abbrev idle-polls : LeftOut link calls
-idle-polls = out refl (stays (stays (stays (stays (stays (out refl done))))))
+idle-polls = out refl (stays (stays (stays (stays (stays (stays (out refl (stays (stays done)))))))))
 
 -- the poll that retires the drained epoch left out
-abbrev busy-poll : LeftOut link calls
-busy-poll = stays (stays (stays (out refl (stays (stays (stays done))))))
+abbrev due-poll : LeftOut link calls
+due-poll = stays (stays (stays (stays (out refl (stays (stays (stays (stays (stays done)))))))))
+
+-- the poll that calls for the start left out
+abbrev start-poll : LeftOut link calls
+start-poll = stays (stays (stays (stays (stays (out refl (stays (stays (stays (stays done)))))))))
+
+-- the poll that ends the link left out
+abbrev teardown-poll : LeftOut link calls
+teardown-poll = stays (stays (stays (stays (stays (stays (stays (stays (stays (out refl done)))))))))
+
+-- the poll that makes the offer left out
+abbrev offer-poll : LeftOut link calls
+offer-poll = stays (stays (stays (out refl (stays (stays (stays (stays (stays (stays done)))))))))
 
 -- the refused poll left out
 abbrev refused-poll : LeftOut link calls
-refused-poll = stays (stays (out refl (stays (stays (stays (stays done))))))
+refused-poll = stays (stays (out refl (stays (stays (stays (stays (stays (stays (stays done)))))))))
+
+-- the states that those polls get
+abbrev cutOver : State
+cutOver = endOf link pair (pollAt 1500 ∷ heardPending ∷ badDraw ∷ [])
+
+abbrev retired : State
+retired = endOf link cutOver (withWorkers ∷ pollAt 12000 ∷ [])
+
+abbrev spentState : State
+spentState = endOf link retired (pollAt 122000 ∷ answered ∷ pollAt 122002 ∷ exhaustedAt 122003 ∷ [])
 
 pub record Seen : Type 0 where
   pub passes : link .Ok pair
   pub log : logOf link pair calls ≡ lines
   pub idle : AllQuiet link pair idle-polls
-  -- the epoch is retired 110 seconds late, with the start
-  pub late : logOf link pair (second link busy-poll) ≡ (record { kind = frame; at = 2000; said = gave (Mark 2 7 ∷ Installed 2 true 1 ∷ Prompt 2 ∷ Rekeyed true ∷ Deliver 0 2 0 0 ∷ []) none }) ∷ (record { kind = poll; at = 2500; said = back 7 0 }) ∷ (record { kind = poll; at = 122000; said = gave (Retired 1 ∷ Start 0 ∷ []) (some 1) }) ∷ []
-  pub busy : quiet link (pollAt 12000 0) (endOf link pair (pollAt 1500 0 ∷ heardPending ∷ pollAt 2500 16 ∷ [])) ≡ false
-  pub refused : quiet link (pollAt 2500 16) (endOf link pair (pollAt 1500 0 ∷ heardPending ∷ [])) ≡ false
+  -- without the poll at 12 s the epoch is retired 110 seconds late, with the start
+  pub late : logOf link pair (second link due-poll) ≡ cutFrame ∷ refusedDraw ∷ offerMade ∷ (record { kind = poll; at = 122000; said = gave (Retired 1 ∷ Start startScheduled ∷ []) (some 1) }) ∷ exhaustion ∷ []
+  -- each of the four conditions, by itself, at its poll
+  pub due : (link .due (pollAt 12000) (endOf link cutOver (withWorkers ∷ [])) ≡ true) × (quiet link (pollAt 12000) (endOf link cutOver (withWorkers ∷ [])) ≡ false)
+  pub start : (link .startCalled (pollAt 122000) retired ≡ true) × (quiet link (pollAt 122000) retired ≡ false)
+  pub teardown : (link .teardown (pollAt 122004) spentState ≡ true) × (quiet link (pollAt 122004) spentState ≡ false)
+  pub offer : (link .offer withWorkers cutOver ≡ true) × (quiet link withWorkers cutOver ≡ false)
+  pub refused : quiet link badDraw (endOf link pair (pollAt 1500 ∷ heardPending ∷ [])) ≡ false
   -- the wake is the pending epoch's deadline
-  pub wake : link .wake (pollAt 1500 0) pair ≡ some 100000
+  pub wake : link .wake (pollAt 1500) pair ≡ some 100000
   pub something : link .held pair ≡ true
-  pub goes-on : accepted link (pollAt 1500 0) pair ≡ true
+  pub goes-on : accepted link (pollAt 1500) pair ≡ true
 
 pub seen : Seen
 unfolding fold range kept takeWhile laterOf satAdd satMul least most factorOf backoffOf sumOf laterByOf soonerOf lostOf losing ladder·pushed events·pushed putOf ladder·offered listing·offered remaining nextAtOf dueRungs taking takeOf instantOf cut doubled doublingOf keepalives filled probesOf bitsOf laid madeOf rungAt ladder·heldOf candidates·heldOf rungsOf lastOf lastSendOf failing firstAt settings·placeOf candidates·placeOf lastOffset msg1Span confirmOf spanOf rungOf gapOf budgetOf firstMade finMade probesMade revertMade elicitMade delayedMade graceOf withHoldOf between candAt heldBy without expiredIn earliestOf chosen choosing others removedOf keptAfter clearedOf expireOf moved among repeated risesFrom itemsFrom opened listFrom before insert sorted listedIn pendingOf epochsOf epochLadders cycleLadders allLadders laddersOf ladderView epochView attemptView pendIView pendRView cycleView candidateView candidatesView memoryView stands at stored events·takenOf reply·takenOf placesOf held events·anyOf refusal·anyOf offeredIn anyFrom sealable wordsStay retireOut abandonOut offerable delegateOut triggerOf silenceInterval latestOf latestIn triggerAt silenceAt floorsPassed floorEnds dampedEnds backedEnds silenceWaits dampedNow backedNow triggeredNow scheduledNow silentNow kindOf scheduledWaits atOf mayStart startKind startAt calledFor ladderInstants mayInstants finInstants elicitInstants drainItems candidateItems pendingItems cycleItems currentItems named dueItems anyDue currentInstants standing openingIdle teardownStands offerOwed heldSomething exhausted cycleInstants storedInstants wakeInstants wakeOf rising profileBad isPending epochsBadOf numbersBad ladderBad laddersBad spreadBad first givenTests stateTests pollTests frameTests replyTests stateBack sharedOf tagsBad pendingEp standingBad eitherBad epochBad heldBad cycleBad isTag isOwn isPeers grace drainDue unadoptedDue lateFor probing probeDue delayedDue finTaken finDue elicitTaken elicitDue resendTaken resendDue abandonedMem expireDue prunes pruned demoted givenUp spent keptFin heardNow adopted heardFrame cutMemory remembered announced cutoverOf candidateDue cutBy heldDue delayEnd unconfirmed assumed confirmDue holds turn·alone calls·alone lowStep highStep otherStep itemStep fresh passItems runItem passOf passesOf threePasses idleNow testsOut endsNow startOut offerOut going waitsFor sealing closing acceptedPoll pollOf reaches deliverOut deliverInto blindTo promptDue staying movesNow heardFirst heardCands movedFirst shortened promptedNow stayedNow heardEpoch unassumed revertedPend heardAny onlyAssumed confirming hearing heardCurrent revertOf assumedHeard confirmingHeard heardPrevious pendingTag slotTag endedOut pendOf pendingFrame currentFrame previousFrame slotFrame frameOf heardTests frameRefused givenOf frameAnswer setupRtt setupFirst setupSched attemptSched attemptTime attemptOf raisesSilence silenceAfter memoryAfter startedOf repliedTests replyRefused replyOf noLadder noFinal noRepeats noEpoch noDrain noAttempt noPendI noPendR idle noCandidates belowHeld toldTests toldNumber toldState toldOf
-seen = record { passes = refl; log = refl; idle = (refl, (refl, tt)); late = refl; busy = refl; refused = refl; wake = refl; something = refl; goes-on = refl }
+seen =
+    record {
+      passes = refl;
+      log = refl;
+      idle = (refl, (refl, tt));
+      late = refl;
+      due = (refl, refl);
+      start = (refl, refl);
+      teardown = (refl, refl);
+      offer = (refl, refl);
+      refused = refl;
+      wake = refl;
+      something = refl;
+      goes-on = refl;
+    }
 
 -- ---- what the theorem gives
 
@@ -211,19 +296,38 @@ same = two-runs .holds .exactly pair calls idle-polls in-order .1 (seen .idle)
 pub same-record : endOf link pair calls ≡ endOf link pair (second link idle-polls)
 same-record = two-runs .holds .records pair calls idle-polls (seen .idle)
 
--- the poll with a due item may not
-pub differs : (logOf link pair calls ≡ logOf link pair (second link busy-poll)) → ⊥
-differs p = true≢false (sym (two-runs .holds .logs pair calls busy-poll in-order p .0) ∙ seen .busy)
+-- a choice with a poll that was not quiet shows in the log
+shows : (d : LeftOut link calls) → (AllQuiet link pair d → ⊥) → logOf link pair calls ≡ logOf link pair (second link d) → ⊥
+shows d h p = h (two-runs .holds .logs pair calls d in-order p)
 
--- nor the refused one
-pub tells : (logOf link pair calls ≡ logOf link pair (second link refused-poll)) → ⊥
-tells p = true≢false (sym (two-runs .holds .logs pair calls refused-poll in-order p .0) ∙ seen .refused)
+-- so none of the others may: not the poll with a due item, ..
+pub due-shows : logOf link pair calls ≡ logOf link pair (second link due-poll) → ⊥
+due-shows = shows due-poll (λ a. true≢false (sym (a .0) ∙ seen .due .1))
+
+-- .. a start called for, ..
+pub start-shows : logOf link pair calls ≡ logOf link pair (second link start-poll) → ⊥
+start-shows = shows start-poll (λ a. true≢false (sym (a .0) ∙ seen .start .1))
+
+-- .. a teardown standing, ..
+pub teardown-shows : logOf link pair calls ≡ logOf link pair (second link teardown-poll) → ⊥
+teardown-shows = shows teardown-poll (λ a. true≢false (sym (a .0) ∙ seen .teardown .1))
+
+-- .. an offer owed, ..
+pub offer-shows : logOf link pair calls ≡ logOf link pair (second link offer-poll) → ⊥
+offer-shows = shows offer-poll (λ a. true≢false (sym (a .0) ∙ seen .offer .1))
+
+-- .. nor the refused one
+pub refused-shows : logOf link pair calls ≡ logOf link pair (second link refused-poll) → ⊥
+refused-shows = shows refused-poll (λ a. true≢false (sym (a .0) ∙ seen .refused))
 
 -- the wake clause at the first poll: the wake is later, so the poll is quiet
-pub sleeps : quiet link (pollAt 1500 0) pair ≡ true
+pub sleeps : quiet link (pollAt 1500) pair ≡ true
 sleeps =
-    two-runs .holds .wakes pair [] (pollAt 1500 0) (heardPending ∷ pollAt 2500 16 ∷ pollAt 12000 0 ∷ pollAt 122000 0 ∷ answered ∷ pollAt 122002 0 ∷ [])
-    (seen .passes) in-order early refl (seen .goes-on) refl (seen .something) (subst (λ w. Late w 1500) (sym (seen .wake)) (omega arith))
+    two-runs .holds .wakes pair [] (pollAt 1500) (heardPending ∷ [])
+    (seen .passes)
+    (rises 0 (pollAt 1500 ∷ heardPending ∷ []) (omega arith, (omega arith, tt)))
+    (early (pollAt 1500 ∷ heardPending ∷ []))
+    refl (seen .goes-on) refl (seen .something) (subst (λ w. Late w 1500) (sym (seen .wake)) (omega arith))
 
 -- ---- what stands decides
 
@@ -233,7 +337,7 @@ littered =
     record {
       mem = pair .mem;
       cur = pair .cur;
-      drain = record { some = false; ep = epoch 7; deadline = 5; evidenced = true };
+      drain = record { some = false; ep = epoch 7 noIndex; deadline = 5; evidenced = true };
       cycle = record { kind = 3; init = record { hs = 1; out = 2; lease = noIndex; transport = 3; first = 4; ladder = noEpoch .fin .ladder; deadline = 5; resent = true }; pendi = noPendI; pendr = pair .cycle .pendr };
       cands = pair .cands;
     }
