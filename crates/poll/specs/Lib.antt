@@ -6,4 +6,6 @@ pub mod Laws
 pub mod Late
 pub mod Agree
 pub mod Runs
+pub mod Served
+pub mod Others
 pub mod Link

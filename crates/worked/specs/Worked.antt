@@ -21,8 +21,9 @@ use Rattle.frame.specs.declared.FrameProof.{FrameProof}
 use Rattle.reply.specs.declared.StartReply.{StartReply}
 use Rattle.calls.specs.Blank.{noEpoch, noAttempt, noPendI, noCandidates, noDrain, noIndex}
 use Rattle.early.specs.Early.{Early}
-use Rattle.poll.specs.Runs.{poll, frame, reply, sent, back, gave, Entry, LeftOut, done, stays, out, logOf, second, endOf, AllQuiet, After, Rises, EarlyFor, Late, accepted, quiet}
-use Rattle.poll.specs.Link.{Call, aPoll, aFrame, aReply, aSent, link}
+use Rattle.poll.specs.Runs.{poll, named as called, back, gave, Entry, LeftOut, done, stays, out, logOf, second, endOf, AllQuiet, After, Rises, EarlyFor, Late, accepted, quiet}
+use Rattle.poll.specs.Served.{Name, frame}
+use Rattle.poll.specs.Link.{Call, aPoll, other, aFrame, aReply, aSent, link}
 use Rattle.poll.proofs.Holds.{two-runs}
 use Rattle.time.specs.Lists.{fold, range, kept, takeWhile}
 use Rattle.time.specs.Time.{laterOf, satAdd, satMul, least, most, factorOf, backoffOf, sumOf, laterByOf, soonerOf}
@@ -132,7 +133,7 @@ pollAt now = aPoll fmp profile now false (pos 0) 0
 
 -- an empty frame under the pending epoch
 abbrev heardPending : Call
-heardPending = aFrame fmp profile 2000 false (pos 0) (record { tag = 2; slot = 1; counter = 7; k = true; len = 0; probe = false }) 0 [] []
+heardPending = other (aFrame fmp profile 2000 false (pos 0) (record { tag = 2; slot = 1; counter = 7; k = true; len = 0; probe = false }) 0 [] [])
 
 -- the extra 16 is above the setting jitter, 15
 abbrev badDraw : Call
@@ -143,11 +144,11 @@ abbrev withWorkers : Call
 withWorkers = aPoll fmp profile 3000 true (pos 0) 0
 
 abbrev answered : Call
-answered = aReply fmp profile 122001 (record { opened = true; hs = 1; msg = 2; transport = 3; lease = noIndex })
+answered = other (aReply fmp profile 122001 (record { opened = true; hs = 1; msg = 2; transport = 3; lease = noIndex }))
 
 -- as many as the setting `hard`
 abbrev exhaustedAt : ℕ → Call
-exhaustedAt now = aSent now (fmp .hard)
+exhaustedAt now = other (aSent now (fmp .hard))
 
 abbrev calls : List Call
 calls =
@@ -195,20 +196,20 @@ early (c ∷ cs) = (begun (link .atOf c), early cs)
 -- ---- what one sees
 
 -- what the frame tells: a cutover by frame
-abbrev cutFrame : Entry Event
-cutFrame = record { kind = frame; at = 2000; said = gave (Mark 2 7 ∷ Installed 2 true evidenceFrame ∷ Prompt 2 ∷ Rekeyed true ∷ Deliver slotCurrent 2 0 0 ∷ []) none }
+abbrev cutFrame : Entry Name Event
+cutFrame = record { kind = called frame; at = 2000; said = gave (Mark 2 7 ∷ Installed 2 true evidenceFrame ∷ Prompt 2 ∷ Rekeyed true ∷ Deliver slotCurrent 2 0 0 ∷ []) none }
 
-abbrev refusedDraw : Entry Event
+abbrev refusedDraw : Entry Name Event
 refusedDraw = record { kind = poll; at = 2500; said = back 7 0 }
 
-abbrev offerMade : Entry Event
+abbrev offerMade : Entry Name Event
 offerMade = record { kind = poll; at = 3000; said = gave (Delegate 2 0 9 2 never ∷ []) (some 0) }
 
-abbrev exhaustion : Entry Event
+abbrev exhaustion : Entry Name Event
 exhaustion = record { kind = poll; at = 122004; said = gave (Teardown teardownCounterExhausted ∷ []) (some 0) }
 
 -- a line of the log for each call that says something
-abbrev lines : List (Entry Event)
+abbrev lines : List (Entry Name Event)
 lines =
     cutFrame
     ∷ refusedDraw
