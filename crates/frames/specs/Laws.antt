@@ -50,12 +50,12 @@ module _ (s : State) (cfg : Config) (profile : Profile) (spread : ℤ) where
 
 module _ (s : State) (cfg : Config) (profile : Profile) (time : ℕ) (workers : Bool) (spread : ℤ) (p : FrameProof) (body : ℕ) (source target : List ℕ) where
   -- "No answer has more than 96": a frame has 16 at most
-  pub frame-few : length (frameAnswer s cfg profile time workers spread p body source target .out) ≤ 96
+  pub frame-few : length (frameAnswer s cfg profile time workers spread p body source target .out) ≤ 16
   unfolding frameAnswer
   frame-few = under (eqb (frameRefused s cfg profile spread (p .slot) (p .tag) .number) 0)
     where
-      under : (b : Bool) → length (pick b (frameOf s (givenOf cfg profile time workers) spread p body source target .out) []) ≤ 96
-      under true = omega (arith, frame-most s (givenOf cfg profile time workers) spread p body source target)
+      under : (b : Bool) → length (pick b (frameOf s (givenOf cfg profile time workers) spread p body source target .out) []) ≤ 16
+      under true = frame-most s (givenOf cfg profile time workers) spread p body source target
       under false = omega arith
 
   -- a frame that is sent back changes nothing and tells nothing

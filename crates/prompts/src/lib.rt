@@ -1,0 +1,1 @@
+// Laws about the prompts that a frame tells. No code: see specs/.
