@@ -3,8 +3,21 @@
 //! probe.rs is compiled against the archive and run: the library gives a sample of each record, with
 //! a number of its own in every field, and the probe reads each field back. Nothing is built where
 //! one differs.
-use std::path::PathBuf;
+//!
+//! For the tests it looks whether what they compare with is there, so that a test which cannot run is
+//! reported as ignored (tests/vectors.rs).
+use std::path::{Path, PathBuf};
 use std::process::Command;
+
+/// Sets `cfg(flag)` where the variable names nothing and the default path is not there.
+fn missing(flag: &str, variable: &str, default: &Path) {
+    println!("cargo:rustc-check-cfg=cfg({flag})");
+    println!("cargo:rerun-if-env-changed={variable}");
+    println!("cargo:rerun-if-changed={}", default.display());
+    if std::env::var_os(variable).is_none() && !default.exists() {
+        println!("cargo:rustc-cfg={flag}");
+    }
+}
 
 fn main() {
     let here = PathBuf::from(std::env::var("CARGO_MANIFEST_DIR").expect("cargo sets it"));
@@ -33,7 +46,12 @@ fn main() {
         .arg(here.join("probe.rs"))
         .status()
         .expect("rustc runs");
-    assert!(compiled.success(), "the probe of the records' layout does not compile");
+    assert!(
+        compiled.success(),
+        "the probe of the records' layout does not compile and link against {}: where that is older \
+         than this crate, run `rt staticlib link` again",
+        archive.display()
+    );
     let held = Command::new(&probe).output().expect("the probe runs");
     assert!(
         held.status.success(),
@@ -41,6 +59,9 @@ fn main() {
         archive.display(),
         String::from_utf8_lossy(&held.stderr)
     );
+
+    missing("no_lists", "SIKLYAVON_VECTORS", &here.join("../../shared/vectors"));
+    missing("no_oracle", "SIKLYAVON_ORACLE", &here.join("../target/oracle/build/release/machine"));
 
     println!("cargo:rustc-link-search=native={}", folder.display());
     println!("cargo:rustc-link-lib=static=link");

@@ -126,25 +126,12 @@ fn main() {
 
 /// Calls on an opened link: every field of each answer.
 unsafe fn answers() {
-    let cfg = Config {
-        after: 120_000,
-        jitter: 15,
-        messages: 65_536,
-        handshake: 30_000,
-        check: 1_000,
-        drain: 10_000,
-        retention: 120_000,
-        hold: 120_000,
-        revert: 10_000,
-        dampening: 30_000,
-        ttl: 40_000,
-        link_age: 30_000,
-        silence: 30_000,
-        resends: 5,
-        soft: 1 << 62,
-        hard: 1 << 63,
-        ..Config::default()
-    };
+    let (cfg, session) = (siklyavon_config_fmp(), siklyavon_config_fsp());
+    assert_eq!((siklyavon_settings(cfg), siklyavon_settings(session)), (0, 0));
+    let floors = |c: Config| (c.floor_link, c.floor_session, c.floor_cutover);
+    assert_ne!(floors(cfg), floors(session));
+    let (floor_link, floor_session, floor_cutover) = floors(cfg);
+    assert_eq!(Config { floor_link, floor_session, floor_cutover, ..session }, cfg);
     let p = Profile { messages: 2, ..Profile::default() };
     let mut log = [0; WORDS];
     let lease = Index { some: true, index: 3 };
@@ -153,15 +140,16 @@ unsafe fn answers() {
     assert_eq!((back.number, back.place, back.len), (1, 9, 0));
     let o = siklyavon_open(cfg, p, true, 7, lease, false, 0, 1000, &mut log);
     assert_eq!((o.number, o.place, o.len, o.state.cur.ep.tag), (0, 0, 3, 1));
-    let c = siklyavon_sent(o.state, 5);
+    let c = siklyavon_sent(o.state, 2000, 5);
     assert_eq!((c.number, c.state.cur.ep.sent), (0, 5));
-    assert_eq!(siklyavon_sent(c.state, 4).number, 11);
+    assert_eq!(siklyavon_sent(c.state, 2000, 4).number, 11);
     let back = siklyavon_wake(o.state, Config { ttl: 0, ..cfg }, p);
     assert_eq!((back.number, back.place), (1, 9));
     let w = siklyavon_wake(o.state, cfg, p);
-    assert_eq!((w.number, w.place, w.at), (0, 0, When { some: true, at: 121_000 }));
+    let start = 1000 + cfg.after;
+    assert_eq!((w.number, w.place, w.at), (0, 0, When { some: true, at: start }));
     let l = siklyavon_status(o.state, cfg, p, 2000);
-    assert_eq!((l.number, l.place, l.tag.at, l.kind, l.wake.at, l.quiet.some), (0, 0, 1, 0, 121_000, false));
+    assert_eq!((l.number, l.place, l.tag.at, l.kind, l.wake.at, l.quiet.some), (0, 0, 1, 0, start, false));
     let mut s = o.state;
     s.cands.len = 2;
     s.cands.seq[1] = 1;
@@ -177,7 +165,11 @@ unsafe fn answers() {
     let r = siklyavon_reply(o.state, cfg, p, 2000, StartReply::default());
     assert_eq!((r.number, r.place, r.state), (10, 0, o.state));
     let g = Given { cfg, profile: p, now: 2000, workers: false, extra: 0 };
-    assert!(siklyavon_quiet(&o.state, g));
-    assert!(!siklyavon_quiet(&o.state, Given { workers: true, ..g }));
-    assert!(!siklyavon_quiet(&s, g));
+    let j = u32::from(cfg.jitter);
+    let least = -i32::from(cfg.jitter);
+    assert!(siklyavon_quiet(&o.state, Given { extra: j, ..g }, least));
+    assert!(!siklyavon_quiet(&o.state, g, least - 1));
+    assert!(!siklyavon_quiet(&o.state, Given { extra: j + 1, ..g }, 0));
+    assert!(!siklyavon_quiet(&o.state, Given { workers: true, ..g }, 0));
+    assert!(!siklyavon_quiet(&s, g, 0));
 }

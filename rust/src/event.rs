@@ -86,7 +86,8 @@ pub enum Event {
     Bind { transport: u64, index: u64, tag: Option<u64>, purpose: Purpose },
     /// The binding of an index on a transport is removed.
     Unbind { transport: u64, index: u64 },
-    /// The receive half of an epoch is offered to a decrypt worker.
+    /// The receive half of an epoch is offered to a decrypt worker; the floor is the highest counter
+    /// that a lost worker reported.
     Delegate { tag: u64, transport: u64, index: u64, session: u64, floor: Option<u64> },
     /// The worker's copy is withdrawn.
     Revoke { tag: u64, transport: u64, index: u64 },
@@ -199,7 +200,8 @@ impl Log {
     /// The events of the last call, in order.
     ///
     /// # Panics
-    /// On words that are no event's. The library is proved to write only such words.
+    /// On words that are no event's. The library is proved to write the words of the events that
+    /// its definitions name, and these give no numbers but those of the enums here.
     pub fn events(&self) -> impl Iterator<Item = Event> + '_ {
         self.words.chunks_exact(8).take(self.len).map(|w| {
             Event::of(w.try_into().expect("eight words")).expect("the words of an event")

@@ -3,14 +3,14 @@
 //! Rust holds the [`State`] and reads and writes every field of it; each call takes what it needs
 //! and gives the new state back. The library keeps nothing. Each call tells its events into a
 //! [`Log`] that the caller lends, or is sent back with a [`Refusal`], which leaves state, log words
-//! and buffers as they were. Every answer is proved to be what its definition in the repository's
-//! `crates/*/specs` says, for every value of every field.
+//! and buffers as they were; the log then tells no event. Every answer is proved to be what its
+//! definition in the repository's `crates/*/specs` says, for every value of every field.
 //!
 //! The archive `target/staticlib/liblink.a` is made by `rt staticlib link` in the repository's top
 //! folder; the environment variable `SIKLYAVON_LINK` names another folder that has it.
 //!
 //! # Example
-//! A link is opened, polled when it wakes, handed a frame that authenticated, and answers a START.
+//! A link is opened, handed a frame that authenticated, polled at its wake, and answers a START.
 //! ```
 //! use siklyavon_link::*;
 //!
@@ -33,12 +33,12 @@
 //! assert_eq!(log.events().next(), Some(Event::Mark { tag: 1, counter: 9 }));
 //! assert_eq!(&target[..4], b"data");
 //!
-//! // Rust told how many frames it sealed.
-//! sent(&mut state, 3)?;
+//! // At 2500 Rust told how many frames it sealed.
+//! sent(&mut state, 2500, 3)?;
 //!
-//! // Polled when it wakes: the time trigger calls for a start. Until then it is quiet.
-//! let now = wake(&state, &cfg, &profile)?.expect("an open link has a wake");
-//! assert!(quiet(&state, Instant { now: now - 1, ..at }));
+//! // Polled at its wake: the time trigger calls for a start. Until then it is quiet.
+//! let now = wake(&state, &cfg, &profile)?.expect("a start is to come");
+//! assert!(quiet(&state, Instant { now: now - 1, ..at }, 0, 0));
 //! assert_eq!(now, 121_000);
 //! let at = Instant { now, ..at };
 //! poll(&mut state, at, 0, 0, &mut log)?;
@@ -56,6 +56,69 @@
 //! # Ok(())
 //! # }
 //! ```
+//!
+//! # When to poll
+//! [`quiet`] says of one instant that a poll can be left out, and [`wake`] gives an instant before
+//! which that stays so. Neither paces a caller. A START leaves the state, and so does a reply that
+//! opened nothing: the start is still called for, every poll tells it again, and the wake stays in the
+//! past. A sent count at `hard` keeps it there too, and it may be early. So a caller that sleeps until
+//! the wake alone may poll without a pause. It needs two limits of its own: no two polls within
+//! `check`, and no new try to start before a back-off that grows with each try that opened nothing. A
+//! START that comes before that needs no reply.
+//!
+//! Here no try opens a handshake. In ten minutes the link is polled once a second from the first
+//! START on, 481 times, and twelve starts are tried.
+//! ```
+//! use siklyavon_link::*;
+//!
+//! # struct Clock(u64);
+//! # impl Clock {
+//! #     fn sleep_until(&mut self, t: Option<u64>) -> u64 {
+//! #         self.0 = self.0.max(t.expect("no other call comes"));
+//! #         self.0
+//! #     }
+//! # }
+//! # let (mut clock, mut polls, mut tries) = (Clock(1000), 0, 0);
+//! # let mut try_to_start = || -> Option<Attempted> { tries += 1; None };
+//! # let mut run = || -> Result<(), Refusal> {
+//! # let cfg = Config::fmp();
+//! # let profile = Profile { messages: 2, at_proof: false, silence: true, smaller: true, floor: 0 };
+//! # let opening = Opening { role: Role::Responder, transport: 7, lease: None, workers: false };
+//! # let mut log = Log::new();
+//! # let mut state = open(&cfg, &profile, opening, 0, 1000, &mut log)?;
+//! # let draws = || (0, 0);
+//! let mut at = Instant { cfg: &cfg, profile: &profile, now: 1000, workers: false };
+//! let mut next = 0; // no poll before this instant
+//! let mut retry = 0; // no start is tried before this one
+//! let mut failed = 0; // tries in a row that opened nothing
+//! loop {
+//!     // There is something to do at once, or at the wake, or not before another call is made.
+//!     let look = if quiet(&state, at, 0, 0) { wake(&state, &cfg, &profile)? } else { Some(at.now) };
+//!     // A frame that arrives or a count that is told ends the sleep: make that call, then look again.
+//!     at.now = clock.sleep_until(look.map(|t| t.max(next)));
+//! #   if at.now > 601_000 { return Ok(()); }
+//! #   polls += 1;
+//!     let (spread, extra) = draws();
+//!     poll(&mut state, at, spread, extra, &mut log)?;
+//!     next = at.now.saturating_add(cfg.check);
+//!     for event in log.events() {
+//!         match event {
+//!             Event::Start(_) if at.now >= retry => {
+//!                 let opened = try_to_start();
+//!                 reply(&mut state, at, opened)?;
+//!                 failed = if opened.is_some() { 0 } else { failed + 1 };
+//!                 let pause = cfg.check.saturating_mul(1 << failed.min(6));
+//!                 retry = if opened.is_some() { 0 } else { at.now.saturating_add(pause) };
+//!             }
+//!             Event::Teardown(_) => return Ok(()), // close the link
+//!             _ => {} // do what the event says
+//!         }
+//!     }
+//! }
+//! # };
+//! # run().expect("every call is accepted");
+//! # assert_eq!((polls, tries), (481, 12));
+//! ```
 mod event;
 pub mod raw;
 
@@ -70,7 +133,39 @@ pub use raw::{
 use std::fmt;
 
 /// A call that was sent back: the number of the first test that failed, and in number 1 the place of
-/// the settings' check, from 1, else 0.
+/// the first check that the settings fail, else 0.
+///
+/// | number | what was given |
+/// |---|---|
+/// | 1 | settings that fail a check |
+/// | 2 | a profile whose messages are not 2 or 3, or whose floor is above 64 |
+/// | 3 | a state with more than 32 candidates |
+/// | 4 | a pending or drained epoch without a current one |
+/// | 5 | two epochs with one tag, or two candidates with one sequence number |
+/// | 6 | a ladder with more than 16 rungs, or with its cursor above their number |
+/// | 7 | a spread outside of -J to J, or an extra above J; J is the setting `jitter` |
+/// | 8 | a frame for a slot that holds no epoch |
+/// | 9 | a frame with another tag than that epoch's |
+/// | 10 | a start reply while no start is called for, or the sent count has reached `hard` |
+/// | 11 | a told sent count below the held one |
+///
+/// | place | the settings' check in number 1; sums are exact, also above 2^64 - 1 |
+/// |---|---|
+/// | 1 | `messages` is 0 |
+/// | 2 | `messages` is above `soft` |
+/// | 3 | `after` is not above `jitter` seconds |
+/// | 4 | `after` is below `jitter` seconds and `link_age` together |
+/// | 5 | `after` is above 2^32 - 1 seconds |
+/// | 6 | `check` is 0 |
+/// | 7 | `hold` is 0 |
+/// | 8 | `revert` is 0 |
+/// | 9 | `ttl` is 0 |
+/// | 10 | `silence` is 0 |
+/// | 11 | `handshake` is below `check` and 3 seconds together |
+/// | 12 | `drain` is not above 2 seconds |
+/// | 13 | `retention` is below `drain` |
+/// | 14 | `hold` is not above `handshake` and `check` together |
+/// | 15 | `hard` is not above `soft` |
 #[derive(Clone, Copy, Debug, PartialEq, Eq, Hash)]
 pub struct Refusal {
     pub number: u8,
@@ -163,41 +258,19 @@ impl Index {
 impl Config {
     /// The defaults for a link.
     pub fn fmp() -> Self {
-        Self {
-            after: 120_000,
-            jitter: 15,
-            messages: 65_536,
-            handshake: 30_000,
-            check: 1_000,
-            drain: 10_000,
-            retention: 120_000,
-            hold: 120_000,
-            revert: 10_000,
-            dampening: 30_000,
-            ttl: 40_000,
-            young: 5_000,
-            link_age: 30_000,
-            session_age: 10_000,
-            floor_link: 31_000,
-            floor_session: 31_000,
-            floor_cutover: 0,
-            silence: 30_000,
-            resends: 5,
-            soft: 1 << 62,
-            hard: u64::MAX - (1 << 20) + 1,
-            delay: 2_000,
-            arrival: false,
-        }
+        // SAFETY: the record is laid out as the library has it (build.rs).
+        unsafe { raw::siklyavon_config_fmp() }
     }
 
     /// The defaults for an end-to-end session: those of a link with other floors.
     pub fn fsp() -> Self {
-        Self { floor_link: 0, floor_session: 0, floor_cutover: 10_000, ..Self::fmp() }
+        // SAFETY: as in `fmp`.
+        unsafe { raw::siklyavon_config_fsp() }
     }
 
     /// Whether the settings pass every check. Refusal 1.
     pub fn check(&self) -> Result<(), Refusal> {
-        // SAFETY: the record is laid out as the library has it (build.rs).
+        // SAFETY: as in `fmp`.
         let place = unsafe { raw::siklyavon_settings(*self) };
         Refusal::of(u8::from(place != 0), place)
     }
@@ -233,8 +306,10 @@ pub struct Attempted {
 /// The link line.
 #[derive(Clone, Copy, Debug, PartialEq, Eq)]
 pub struct Status {
+    /// The current epoch's tag.
     pub tag: Option<u64>,
     pub kind: CycleKind,
+    /// As [`wake`] tells it.
     pub wake: Option<u64>,
     /// The time since the last authenticated frame.
     pub quiet: Option<u64>,
@@ -271,7 +346,9 @@ pub fn open(
 }
 
 /// A poll; `spread` is the draw of a cutover, from -J to J, and `extra` that of an abandoned attempt,
-/// from 0 to J, in whole seconds. Gives how many items its passes listed. Refusals 1 to 7.
+/// from 0 to J, in whole seconds. Gives how many items its passes listed. START, DELEGATE and the
+/// teardowns of an idle opening and of a sent count at `hard` leave the state: they are told again at
+/// each poll while their condition holds. Refusals 1 to 7.
 pub fn poll(
     state: &mut State,
     at: Instant<'_>,
@@ -298,38 +375,47 @@ pub fn poll(
     Ok(r.count)
 }
 
-/// The quiet test at one instant, for any number of links with the same settings.
+/// The quiet test with one set of a poll's arguments, for any number of links.
 #[derive(Clone, Copy, Debug)]
-pub struct Watch(raw::Given);
+pub struct Watch {
+    given: raw::Given,
+    spread: i32,
+}
 
 impl Watch {
-    pub fn new(at: Instant<'_>) -> Self {
-        Self(raw::Given {
+    /// Takes what [`poll`] takes, the draws too: a poll with a draw outside its range is sent back.
+    /// 0 and 0 are in range under every settings, and no draw in range makes a link quiet or not, so
+    /// a caller may test with these and draw for the polls that it makes.
+    pub fn new(at: Instant<'_>, spread: i32, extra: u32) -> Self {
+        let given = raw::Given {
             cfg: *at.cfg,
             profile: *at.profile,
             now: at.now,
             workers: at.workers,
-            extra: 0,
-        })
+            extra,
+        };
+        Self { given, spread }
     }
 
-    /// Whether a poll would have nothing to do: no item due, no start called for, no teardown and no
-    /// offer owed. Where it is quiet and the poll would be accepted, the poll is proved to give the
-    /// state back, with no event and count 0. The state is read where it stands.
+    /// Whether a poll with these arguments would be accepted and have none of the four: an item due,
+    /// a start called for, a teardown standing, an offer owed. Such a poll is proved to give the
+    /// state back, with no event and count 0, so it can be left out. A poll that would be sent back
+    /// is not quiet: left out, its refusal would be lost. The state is read where it stands.
     #[inline]
     pub fn quiet(&self, state: &State) -> bool {
         // SAFETY: as in `open`; the state is lent for the call.
-        unsafe { raw::siklyavon_quiet(state, self.0) }
+        unsafe { raw::siklyavon_quiet(state, self.given, self.spread) }
     }
 }
 
 /// The quiet test of one link; see [`Watch`].
-pub fn quiet(state: &State, at: Instant<'_>) -> bool {
-    Watch::new(at).quiet(state)
+pub fn quiet(state: &State, at: Instant<'_>, spread: i32, extra: u32) -> bool {
+    Watch::new(at, spread, extra).quiet(state)
 }
 
 /// A frame that authenticated: its plaintext, at the front of `source`, goes to `target` from place
-/// `body`, all of it or none. Refusals 1 to 9.
+/// `body`. Where it is shorter than the profile's floor or does not fit, no byte is written, and
+/// `Reject(ShortPlaintext)` is told in the place of DELIVER. Refusals 1 to 9.
 #[allow(clippy::too_many_arguments)]
 pub fn frame(
     state: &mut State,
@@ -365,7 +451,9 @@ pub fn frame(
     Ok(())
 }
 
-/// The answer to a START: the attempt that was opened, or none. Refusals 1 to 6 and 10.
+/// The answer to a START: the attempt that was opened, or none. It is taken while a start is called
+/// for at its own instant and the sent count is below `hard`, whether a START was told or not. With
+/// none the state stays as it is, and the start is still called for. Refusals 1 to 6 and 10.
 pub fn reply(state: &mut State, at: Instant<'_>, opened: Option<Attempted>) -> Result<(), Refusal> {
     let r = match opened {
         None => StartReply::default(),
@@ -384,16 +472,44 @@ pub fn reply(state: &mut State, at: Instant<'_>, opened: Option<Attempted>) -> R
     Ok(())
 }
 
-/// How many frames were sealed under the current epoch. Refusals 3 to 6 and 11.
-pub fn sent(state: &mut State, count: u64) -> Result<(), Refusal> {
+/// How many frames were sealed under the current epoch, told at an instant. Without a current epoch it
+/// changes nothing. The instant decides nothing: like every call of a run this one is logged with it.
+/// Refusals 3 to 6 and 11.
+pub fn sent(state: &mut State, now: u64, count: u64) -> Result<(), Refusal> {
     // SAFETY: as in `open`.
-    let r = unsafe { raw::siklyavon_sent(*state, count) };
+    let r = unsafe { raw::siklyavon_sent(*state, now, count) };
     Refusal::of(r.number, 0)?;
     *state = r.state;
     Ok(())
 }
 
-/// The earliest instant at which a poll has work. Refusals 1 to 6.
+/// The least of the instants that a state names, or none where it names none: the deadlines of the
+/// drained epoch, of the candidates and of the cycle; the next rungs of the cycle's ladders and of the
+/// current epoch's; the earliest start; and once the sent count has reached `hard`, the start of the
+/// current epoch (crates/wake/specs/Wake.antt). Refusals 1 to 6.
+///
+/// What is proved of it (crates/poll/specs/Runs.antt, `wakes` of `Demand3`): an accepted poll, with
+/// workers off and an epoch, an attempt or a candidate held, has none of the four that [`Watch::quiet`]
+/// names where the wake, taken for its state, settings and profile, is absent or later than its
+/// instant. This supposes that
+/// - the poll stands in a list of polls, frames, start replies and told sent counts, refused ones
+///   included, each of which gets the state that the one before it left, and nobody else writes it;
+/// - the first state of the list is accepted (numbers 3 to 6), and its link start, last cutover and
+///   epoch starts are not after any instant of the list; after a write of the caller a new list begins;
+/// - in the list the clock never goes back, and each poll is later than the polls before it.
+///
+/// So with workers off a link need not be polled before its wake, as long as no other call is made and
+/// nobody writes the state. This says nothing of a poll at the wake or after it, and the wake is not
+/// the earliest instant at which a poll has work:
+/// - It may be early, and then stays in the past. It counts the probes and the final message of a
+///   completed own attempt under every wait; a poll takes each under one wait only. And it counts a
+///   floor whose end would pass 2^64 - 1 as ended; no start is called for then.
+/// - It stays in the past while a start is called for and no reply opens an attempt, and once the
+///   sent count has reached `hard`, while the link is not closed.
+/// - It counts no offer: with workers on it may be late or absent while one is owed.
+/// - It is absent where nothing is held, though a teardown stands at every poll (`OpeningIdle`).
+///
+/// The crate's page has a loop that heeds all of these.
 pub fn wake(state: &State, cfg: &Config, profile: &Profile) -> Result<Option<u64>, Refusal> {
     // SAFETY: as in `open`.
     let r = unsafe { raw::siklyavon_wake(*state, *cfg, *profile) };

@@ -237,8 +237,10 @@ pub struct Memory {
     pub due: bool,
 }
 
-/// A link's state. Rust holds it and reads and writes every field; a state that no link can be in is
-/// sent back by number, never misread.
+/// A link's state. Rust holds it and reads and writes every field. Numbers 3 to 6 say which states are
+/// sent back; every other is taken as it stands, also one that no list of calls leaves. A cycle kind
+/// that is not 1, 2 or 3 is idle, and a wait that is not 0 or 1 is the delay. `==` compares whole
+/// records, also what is no part of the state.
 #[repr(C)]
 #[derive(Clone, Copy, Debug, Default, PartialEq, Eq)]
 pub struct State {
@@ -290,7 +292,7 @@ pub struct Profile {
     pub floor: u64,
 }
 
-/// What the quiet test is given beside the state; it does not read `extra`.
+/// What the quiet test is given beside the state and the spread: what a poll is given.
 #[repr(C)]
 #[derive(Clone, Copy, Debug, Default, PartialEq, Eq)]
 pub struct Given {
@@ -400,8 +402,11 @@ pub struct Shown {
 pub const WORDS: usize = 768;
 
 // The library reads and writes what the types say and nothing else, keeps no reference, and has no
-// state of its own. A lent slice crosses as its address and its length.
+// state of its own. A lent slice crosses as its address and its length. A frame's source, target and
+// log must not overlap: a promise about each supposes that a store to another leaves it.
 extern "C" {
+    pub fn siklyavon_config_fmp() -> Config;
+    pub fn siklyavon_config_fsp() -> Config;
     pub fn siklyavon_settings(cfg: Config) -> u8;
     pub fn siklyavon_open(
         cfg: Config,
@@ -446,8 +451,8 @@ extern "C" {
         time: u64,
         r: StartReply,
     ) -> Replied;
-    pub fn siklyavon_sent(s: State, count: u64) -> Counted;
+    pub fn siklyavon_sent(s: State, time: u64, count: u64) -> Counted;
     pub fn siklyavon_wake(s: State, cfg: Config, p: Profile) -> Woke;
-    pub fn siklyavon_quiet(s: &State, g: Given) -> bool;
+    pub fn siklyavon_quiet(s: &State, g: Given, spread: i32) -> bool;
     pub fn siklyavon_status(s: State, cfg: Config, p: Profile, time: u64) -> Shown;
 }

@@ -1,31 +1,33 @@
 //! Every call held to lists that the published Rust answered.
 //!
-//! The lists stand in `../../shared/vectors`, seen from this crate; `SIKLYAVON_VECTORS` names
-//! another folder. Where there is none the tests say so and pass. The answers of runs.txt do not all
-//! follow from its lines (docs/DIFFERENCES.md), so the published Rust answers them anew where the
-//! oracle is built (oracle/build).
+//! The lists stand in `../../shared/vectors`, seen from this crate; `SIKLYAVON_VECTORS` names another
+//! folder. Random calls are answered by the oracle's program, which `oracle/build` makes;
+//! `SIKLYAVON_ORACLE` names another. Where nothing is named and the default is not there, the tests
+//! that need it are reported as ignored (build.rs). What is named and not there fails them, and so
+//! does a list that is missing from its folder or has no block.
 mod support;
 
 use std::io::Write as _;
 use std::path::PathBuf;
 use std::process::{Command, Stdio};
 
-fn list(name: &str) -> Option<String> {
-    let here = PathBuf::from(env!("CARGO_MANIFEST_DIR"));
-    let folder = std::env::var("SIKLYAVON_VECTORS").unwrap_or("../../shared/vectors".into());
-    let path = here.join(folder).join(name);
-    match std::fs::read_to_string(&path) {
-        Ok(text) => Some(text),
-        Err(e) => {
-            eprintln!("SKIPPED: {}: {e}; name the folder in SIKLYAVON_VECTORS", path.display());
-            None
-        }
-    }
+/// A path that a variable names, or the default, both seen from this crate.
+fn place(variable: &str, default: &str) -> PathBuf {
+    let named = std::env::var(variable).unwrap_or(default.into());
+    PathBuf::from(env!("CARGO_MANIFEST_DIR")).join(named)
 }
 
-/// Hold our answers to the list's, block by block; the number of blocks.
-fn hold(list: &str) -> usize {
+fn list(name: &str) -> String {
+    let path = place("SIKLYAVON_VECTORS", "../../shared/vectors").join(name);
+    std::fs::read_to_string(&path).unwrap_or_else(|e| {
+        panic!("{}: {e}. SIKLYAVON_VECTORS names the folder of the lists", path.display())
+    })
+}
+
+/// Hold our answers to the list's, block by block.
+fn hold(name: &str, list: &str) {
     let theirs = support::blocks(list);
+    assert!(!theirs.is_empty(), "{name} has no block");
     let (mut i, mut differ) = (0, Vec::new());
     support::play(list, |name, text| {
         assert_eq!(theirs[i].0, name);
@@ -37,46 +39,47 @@ fn hold(list: &str) -> usize {
     });
     assert_eq!(i, theirs.len());
     assert!(differ.is_empty(), "{} of {i} differ:\n{}", differ.len(), differ.join("\n"));
-    i
+    println!("{i} blocks of {name}");
 }
 
 #[test]
+#[cfg_attr(no_lists, ignore = "no ../../shared/vectors; SIKLYAVON_VECTORS names another folder")]
 fn single() {
-    if let Some(l) = list("single.txt") {
-        println!("{} blocks of single.txt", hold(&l));
-    }
+    hold("single.txt", &list("single.txt"));
 }
 
 #[test]
+#[cfg_attr(no_lists, ignore = "no ../../shared/vectors; SIKLYAVON_VECTORS names another folder")]
+fn runs() {
+    hold("runs.txt", &list("runs.txt"));
+}
+
+#[test]
+#[cfg_attr(no_lists, ignore = "no ../../shared/vectors; SIKLYAVON_VECTORS names another folder")]
 fn refusals() {
-    if let Some(l) = list("refusals.txt") {
-        println!("{} blocks of refusals.txt", hold(&l));
-    }
+    hold("refusals.txt", &list("refusals.txt"));
 }
 
 #[test]
+#[cfg_attr(no_lists, ignore = "no ../../shared/vectors; SIKLYAVON_VECTORS names another folder")]
 fn opens() {
-    if let Some(l) = list("opens.txt") {
-        println!("{} blocks of opens.txt", hold(&l));
-    }
+    hold("opens.txt", &list("opens.txt"));
 }
 
-/// The oracle's program, where it is built (oracle/build) or named in `SIKLYAVON_ORACLE`.
-fn oracle(words: &[&str], input: &str) -> Option<String> {
-    let here = PathBuf::from(env!("CARGO_MANIFEST_DIR"));
-    let program = std::env::var("SIKLYAVON_ORACLE")
-        .unwrap_or("../target/oracle/build/release/machine".into());
-    let program = here.join(program);
-    if !program.exists() {
-        eprintln!("SKIPPED: {} is not there; run oracle/build", program.display());
-        return None;
-    }
-    let mut child = Command::new(program)
+/// What the oracle's program writes.
+fn oracle(words: &[&str], input: &str) -> String {
+    let program = place("SIKLYAVON_ORACLE", "../target/oracle/build/release/machine");
+    let mut child = Command::new(&program)
         .args(words)
         .stdin(Stdio::piped())
         .stdout(Stdio::piped())
         .spawn()
-        .expect("the oracle starts");
+        .unwrap_or_else(|e| {
+            panic!(
+                "{}: {e}. Run oracle/build, or name the program in SIKLYAVON_ORACLE",
+                program.display()
+            )
+        });
     let mut stdin = child.stdin.take().expect("piped");
     let input = input.to_owned();
     let writer = std::thread::spawn(move || {
@@ -85,27 +88,19 @@ fn oracle(words: &[&str], input: &str) -> Option<String> {
     });
     let out = child.wait_with_output().expect("the oracle ends");
     writer.join().expect("written");
-    assert!(out.status.success());
-    Some(String::from_utf8(out.stdout).expect("text"))
-}
-
-#[test]
-fn runs() {
-    if let Some(l) = list("runs.txt").and_then(|l| oracle(&["answer"], &l)) {
-        println!("{} runs of runs.txt", hold(&l));
-    }
+    assert!(out.status.success(), "the oracle failed at {words:?}");
+    String::from_utf8(out.stdout).expect("text")
 }
 
 /// Blocks that the oracle makes: `SIKLYAVON_RANDOM` is how many of each kind (500) and
 /// `SIKLYAVON_SEED` their seed (1).
 #[test]
+#[cfg_attr(no_oracle, ignore = "oracle/build was not run; SIKLYAVON_ORACLE names another program")]
 fn random() {
     let count = std::env::var("SIKLYAVON_RANDOM").unwrap_or("500".into());
     let seed = std::env::var("SIKLYAVON_SEED").unwrap_or("1".into());
     for kind in ["single", "runs", "refusals", "opens"] {
         let asked = oracle(&["random", kind, &seed, &count], "");
-        if let Some(l) = asked.and_then(|a| oracle(&["answer"], &a)) {
-            println!("{} random blocks of {kind}", hold(&l));
-        }
+        hold(&format!("random {kind}"), &oracle(&["answer"], &asked));
     }
 }

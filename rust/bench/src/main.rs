@@ -101,7 +101,7 @@ fn poll_row(row: &mut [State], cfg: &Config, profile: &Profile, now: u64, log: &
 fn watch_row(row: &mut [State], cfg: &Config, profile: &Profile, now: u64, log: &mut Log) -> usize {
     let mut told = 0;
     let at = Instant { cfg, profile, now, workers: false };
-    let watch = Watch::new(at);
+    let watch = Watch::new(at, 0, 0);
     for s in row {
         if !watch.quiet(s) {
             poll(s, at, 0, 0, log).expect("the poll is accepted");

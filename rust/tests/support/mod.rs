@@ -554,12 +554,18 @@ pub fn answer(b: &Block, line: &str, log: &mut Log) -> (String, Option<State>) {
         }
         "poll" => {
             let at = given(f.num(), f.flag());
-            let still = quiet(&state, at);
-            match poll(&mut state, at, f.draw(i32::MAX), f.draw(u32::MAX), log) {
-                Err(r) => refused(r),
+            let (spread, extra) = (f.draw(i32::MAX), f.draw(u32::MAX));
+            let still = quiet(&state, at, spread, extra);
+            let before = state;
+            match poll(&mut state, at, spread, extra, log) {
+                Err(r) => {
+                    assert!(!still, "the quiet test of a poll that is sent back: {line}");
+                    refused(r)
+                }
                 Ok(n) => {
                     // The quiet test says exactly which accepted polls tell and list nothing.
                     assert_eq!(still, log.is_empty() && n == 0, "the quiet test: {line}");
+                    assert!(!still || state == before, "a quiet poll changed the state: {line}");
                     (format!("{}= count {n}\n{}", events(log), shown(&state)), Some(state))
                 }
             }
@@ -598,8 +604,8 @@ pub fn answer(b: &Block, line: &str, log: &mut Log) -> (String, Option<State>) {
             }
         }
         "sent" => {
-            f.num();
-            match sent(&mut state, f.num()) {
+            let now = f.num();
+            match sent(&mut state, now, f.num()) {
                 Err(r) => refused(r),
                 Ok(()) => (shown(&state), Some(state)),
             }
