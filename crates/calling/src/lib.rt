@@ -147,7 +147,7 @@ fn start_reply(v: &[u64; 655]) -> StartReply {
 // `sent now count`
 pub fn sent(v: &[u64; 655], left: &mut [u64; 655]) -> Verdict {
     let s = records::state_of(v);
-    let r = calls::told(s, form::number_at(v, ARGS, 1));
+    let r = calls::told(s, form::number_at(v, ARGS, 0), form::number_at(v, ARGS, 1));
     records::keep(left, r.state);
     Verdict {
         number: r.number,

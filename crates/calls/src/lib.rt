@@ -454,8 +454,10 @@ fn put_sent(s: State, count: u64) -> State
     s
 }
 
-// The current epoch's sent count is told. A refused call hands back the state that it was given.
-pub fn told(s: State, count: u64) -> Counted
+// The current epoch's sent count is told at `time`. Every call has an instant, with which it is
+// logged; this one's answer does not depend on it. A refused call hands back the state that it was
+// given.
+pub fn told(s: State, time: u64, count: u64) -> Counted
     ensures { λ r. ⌜ r ≡ toldOf s count ⌝ }
 {
     let number = told_back(s, count);

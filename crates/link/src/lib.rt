@@ -3,7 +3,7 @@
 // buffers are lent.
 ghost use mathlib.Core.Path.{_≡_};
 ghost use Rattle.events.specs.Log.{at, logged};
-ghost use Rattle.settings.specs.Settings.{placeOf};
+ghost use Rattle.settings.specs.Settings.{fmp, fsp, placeOf};
 ghost use Rattle.calls.specs.Open.{openOf};
 ghost use Rattle.calls.specs.Told.{toldOf};
 ghost use Rattle.calls.specs.Read.{wokeOf, statusOf};
@@ -35,6 +35,22 @@ pub extern "C" fn siklyavon_settings(cfg: Config) -> u8
     ensures { λ r. ⌜ r ≡ placeOf cfg ⌝ }
 {
     settings::place(cfg)
+}
+
+// The settings of a link that names no others.
+#[no_mangle]
+pub extern "C" fn siklyavon_config_fmp() -> Config
+    ensures { λ r. ⌜ r ≡ fmp ⌝ }
+{
+    Config::fmp()
+}
+
+// The settings of an end-to-end session that names no others.
+#[no_mangle]
+pub extern "C" fn siklyavon_config_fsp() -> Config
+    ensures { λ r. ⌜ r ≡ fsp ⌝ }
+{
+    Config::fsp()
 }
 
 // A fresh link at its instant.
@@ -132,13 +148,14 @@ pub extern "C" fn siklyavon_reply(
     reply::reply(s, cfg, profile, time, r)
 }
 
-// The current epoch's sent count is told.
+// The current epoch's sent count is told at `time`, with which the call is logged. The answer does
+// not depend on it.
 #[no_mangle]
-pub extern "C" fn siklyavon_sent(s: State, count: u64) -> Counted
+pub extern "C" fn siklyavon_sent(s: State, time: u64, count: u64) -> Counted
     ensures sent { λ r. ⌜ r ≡ toldOf s count ⌝ }
     ensures runs { λ r. ⌜ TwoRuns ⌝ }
 {
-    calls::told(s, count)
+    calls::told(s, time, count)
 }
 
 // The earliest instant at which a poll has work.

@@ -1,6 +1,7 @@
 // Lines whose arguments are named: each name stands before its value, in any order, and what is not
 // named has its default. They are read into the row of crate `form`. No public function has a
 // `requires`.
+mod defaults;
 mod names;
 mod read;
 

@@ -1,5 +1,7 @@
 // Lines into the row.
+use crate::defaults;
 use crate::names;
+use settings::Config;
 use text::Scan;
 
 // An argument is named twice. The other faults of a scan are those of crate `text`.
@@ -8,12 +10,8 @@ pub const TWICE: u8 = 8;
 // The settings and the profile that stand until a line names others: the defaults of a link, two
 // messages, and all else off or 0.
 pub fn start(v: &mut [u64; 655]) {
-    fill(
-        b"120000 15 65536 30000 1000 10000 120000 120000 10000 30000 40000 5000 30000 10000 31000 31000 0 30000 5 4611686018427387904 18446744073708503040 2000 0",
-        form::CFG,
-        form::SETTINGS,
-        v,
-    );
+    let cfg = Config::fmp();
+    defaults::keep(v, cfg);
     fill(b"2 0 0 0 0", form::PROFILE, form::PROFILES, v);
 }
 

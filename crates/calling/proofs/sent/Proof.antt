@@ -8,6 +8,9 @@ state-of-requires c κs = tt
 number-at-requires : tie.Need-number-at-requires
 number-at-requires c κs = tt
 
+number-at-requires-2 : tie.Need-number-at-requires-2
+number-at-requires-2 c κs = tt
+
 told-requires : tie.Need-told-requires
 told-requires c κs = tt
 
@@ -19,4 +22,4 @@ returns c = tt
 
 pub sent-spec : {M : Type 1} → statement M
 sent-spec =
-    tie.close (tie.spec state-of-requires number-at-requires told-requires keep-requires returns)
+    tie.close (tie.spec state-of-requires number-at-requires number-at-requires-2 told-requires keep-requires returns)

@@ -1,4 +1,6 @@
+use mathlib.Core.Path.{_∙_, ap}
 use mir.Facts.{toZ-ofZ}
+use Rattle.sample.specs.Sample.{wholeOf}
 use Rattle.link.proofs.siklyavon_sample_state.Statement.{statement}
 use Rattle.link.proofs.siklyavon_sample_state.Tie as tie
 
@@ -6,7 +8,7 @@ whole-requires : tie.Need-whole-requires
 whole-requires c κs = tt
 
 returns : tie.Need-returns
-returns c = simp (toZ-ofZ (c .before .fits .spread)) at (c .whole .ensures)
+returns c = c .whole .ensures ∙ ap wholeOf (toZ-ofZ (c .before .fits .spread))
 
 pub siklyavon-sample-state-spec : {M : Type 1} → statement M
 siklyavon-sample-state-spec = tie.close (tie.spec whole-requires returns)
