@@ -102,11 +102,6 @@ module _ (s : State) where
       under false false false false true = refl
       under false false false false false = refl
 
-  -- each number is given exactly when its condition holds and that of no lower number does
-  pub told-exactly : (count n : ℕ) → (n ≡ 0 → ⊥) → (toldNumber s count ≡ n) ↔ ((backAt n (toldTests s count) ≡ true) × (backBelow n (toldTests s count) ≡ false))
-  unfolding toldNumber toldTests stateTests rising
-  told-exactly count n h = exactly (toldTests s count) 0 n refl h
-
   not-below : belowHeld (s .cur .some) (s .cur .ep .sent) (s .cur .ep .sent) ≡ false
   unfolding belowHeld
   not-below = both (s .cur .some) (le-ltb (s .cur .ep .sent) (s .cur .ep .sent) (omega arith))

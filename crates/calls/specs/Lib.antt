@@ -3,3 +3,4 @@ pub mod Open
 pub mod Told
 pub mod Read
 pub mod Laws
+pub mod Exact

@@ -9,6 +9,7 @@ ghost use Rattle.calls.specs.Blank.{noLadder, noFinal, noRepeats, noEpoc
 ghost use Rattle.calls.specs.Open.{whenever as wheneverOf, newMemory, firstEpoch, alone as aloneOf, freshState, blankState, installOut, openOf};
 ghost use Rattle.calls.specs.Told.{belowHeld, toldNumber, toldState, toldOf};
 ghost use Rattle.calls.specs.Read.{wokeOf, kindShown, quietTime, statusOf};
+ghost use Rattle.calls.specs.Exact.{ToldExact, WakeExact, StatusExact};
 use candidates::Candidates;
 use cycle::Attempt;
 use cycle::Cycle;
@@ -458,7 +459,8 @@ fn put_sent(s: State, count: u64) -> State
 // logged; this one's answer does not depend on it. A refused call hands back the state that it was
 // given.
 pub fn told(s: State, time: u64, count: u64) -> Counted
-    ensures { λ r. ⌜ r ≡ toldOf s count ⌝ }
+    ensures told { λ r. ⌜ r ≡ toldOf s count ⌝ }
+    ensures exact { λ r. ⌜ ToldExact s count (toldOf s count) ⌝ }
 {
     let number = told_back(s, count);
     if number != 0 {
@@ -474,9 +476,11 @@ pub fn told(s: State, time: u64, count: u64) -> Counted
     }
 }
 
-// The earliest instant at which a poll has work. Refusals 1 to 6.
+// The wake: the least instant that a stored deadline, a ladder or a start condition names, or none. It
+// may come before there is anything to do. Refusals 1 to 6.
 pub fn wake(s: State, cfg: Config, p: Profile) -> Woke
-    ensures { λ r. ⌜ r ≡ wokeOf s cfg p ⌝ }
+    ensures wake { λ r. ⌜ r ≡ wokeOf s cfg p ⌝ }
+    ensures exact { λ r. ⌜ WakeExact s cfg p (wokeOf s cfg p) ⌝ }
 {
     let back = refusal::before_reply(s, cfg, p);
     if back.number != 0 {
@@ -514,7 +518,8 @@ fn quiet_time(heard: When, time: u64) -> When
 
 // The link line. Refusals 1 to 6.
 pub fn status(s: State, cfg: Config, p: Profile, time: u64) -> Shown
-    ensures { λ r. ⌜ r ≡ statusOf s cfg p time ⌝ }
+    ensures status { λ r. ⌜ r ≡ statusOf s cfg p time ⌝ }
+    ensures exact { λ r. ⌜ StatusExact s cfg p (statusOf s cfg p time) ⌝ }
 {
     let back = refusal::before_reply(s, cfg, p);
     if back.number != 0 {

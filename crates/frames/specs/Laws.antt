@@ -43,11 +43,6 @@ module _ (s : State) (cfg : Config) (profile : Profile) (spread : ℤ) where
       first-append (frameTests s cfg profile spread) (by 8 (slotEmpty s slot) ∷ by 9 (otherTag s slot tag) ∷ []) 0 refl
       ∙ ap (λ r. pick (eqb (beforeFrame s cfg profile spread .number) 0) r (beforeFrame s cfg profile spread)) (own-two slot tag)
 
-  -- each number is given exactly when its condition holds and that of no lower number does
-  pub frame-exactly : (slot tag n : ℕ) → (n ≡ 0 → ⊥) → (frameRefused s cfg profile spread slot tag .number ≡ n) ↔ ((backAt n (heardTests s cfg profile spread slot tag) ≡ true) × (backBelow n (heardTests s cfg profile spread slot tag) ≡ false))
-  unfolding frameRefused heardTests frameTests givenTests stateTests rising
-  frame-exactly slot tag n h = exactly (heardTests s cfg profile spread slot tag) 0 n refl h
-
 module _ (s : State) (cfg : Config) (profile : Profile) (time : ℕ) (workers : Bool) (spread : ℤ) (p : FrameProof) (body : ℕ) (source target : List ℕ) where
   -- "No answer has more than 96": a frame has 16 at most
   pub frame-few : length (frameAnswer s cfg profile time workers spread p body source target .out) ≤ 16

@@ -158,7 +158,8 @@ pub extern "C" fn siklyavon_sent(s: State, time: u64, count: u64) -> Counted
     calls::told(s, time, count)
 }
 
-// The earliest instant at which a poll has work.
+// The wake: where workers are off and something is held, a poll before it has nothing to do (the wake
+// clause of demand 3 has the conditions). It may itself come too early.
 #[no_mangle]
 pub extern "C" fn siklyavon_wake(s: State, cfg: Config, p: Profile) -> Woke
     ensures { λ r. ⌜ r ≡ wokeOf s cfg p ⌝ }

@@ -9,3 +9,4 @@ pub mod Runs
 pub mod Served
 pub mod Others
 pub mod Link
+pub mod Exact

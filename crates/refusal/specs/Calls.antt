@@ -148,26 +148,6 @@ pub record PollOk (s : State) (cfg : Config) (p : Profile) (spread : ℤ) (extra
   pub spread-within : natAbs spread ≤ cfg .jitter
   pub extra-within : extra ≤ cfg .jitter
 
-pub record FrameOk (s : State) (cfg : Config) (p : Profile) (spread : ℤ) : Type 0 where
-  pub given : GivenOk cfg p
-  pub state : Sound s
-  pub spread-within : natAbs spread ≤ cfg .jitter
-
-pub record ReplyOk (s : State) (cfg : Config) (p : Profile) : Type 0 where
-  pub given : GivenOk cfg p
-  pub state : Sound s
-
-pub told-exactly : (s : State) → Exactly (stateTests s) (Sound s)
-unfolding stateTests rising
-told-exactly s = call (stateTests s) refl (state-ok s) (λ o. o) (λ o. o)
-
-pub reply-exactly : (s : State) (cfg : Config) (p : Profile) → Exactly (replyTests s cfg p) (ReplyOk s cfg p)
-unfolding replyTests givenTests stateTests rising
-reply-exactly s cfg p =
-    call (replyTests s cfg p) refl (both (givenTests cfg p) (stateTests s) (given-ok cfg p) (state-ok s))
-    (λ q. record { given = q .0; state = q .1 })
-    (λ o. (o .given, o .state))
-
 pub open-exactly : (cfg : Config) (p : Profile) (spread : ℤ) → Exactly (openTests cfg p spread) (OpenOk cfg p spread)
 unfolding openTests givenTests rising
 open-exactly cfg p spread =
@@ -175,16 +155,6 @@ open-exactly cfg p spread =
     (both (givenTests cfg p) (by 7 (spreadBad (cfg .jitter) spread) ∷ []) (given-ok cfg p) (spread-ok (cfg .jitter) spread))
     (λ q. record { given = q .0; spread-within = q .1 })
     (λ o. (o .given, o .spread-within))
-
-pub frame-exactly : (s : State) (cfg : Config) (p : Profile) (spread : ℤ) → Exactly (frameTests s cfg p spread) (FrameOk s cfg p spread)
-unfolding frameTests givenTests stateTests rising
-frame-exactly s cfg p spread =
-    let draw : List Test = by 7 (spreadBad (cfg .jitter) spread) ∷ [] in
-    call (frameTests s cfg p spread) refl
-    (both (givenTests cfg p) (stateTests s ++ draw) (given-ok cfg p)
-    (both (stateTests s) draw (state-ok s) (spread-ok (cfg .jitter) spread)))
-    (λ q. record { given = q .0; state = q .1 .0; spread-within = q .1 .1 })
-    (λ o. (o .given, (o .state, o .spread-within)))
 
 pub poll-exactly : (s : State) (cfg : Config) (p : Profile) (spread : ℤ) (extra : ℕ) → Exactly (pollTests s cfg p spread extra) (PollOk s cfg p spread extra)
 unfolding pollTests givenTests stateTests rising

@@ -37,11 +37,6 @@ module _ (s : State) (cfg : Config) (p : Profile) (now : ℕ) where
       first-append (replyTests s cfg p) (by 10 (not (calledFor s cfg p now)) ∷ []) 0 refl
       ∙ ap (λ r. pick (eqb (beforeReply s cfg p .number) 0) r (beforeReply s cfg p)) own-ten
 
-  -- each number is given exactly when its condition holds and that of no lower number does
-  pub reply-exactly : (n : ℕ) → (n ≡ 0 → ⊥) → (replyRefused s cfg p now .number ≡ n) ↔ ((backAt n (repliedTests s cfg p now) ≡ true) × (backBelow n (repliedTests s cfg p now) ≡ false))
-  unfolding replyRefused repliedTests replyTests givenTests stateTests rising
-  reply-exactly n h = exactly (repliedTests s cfg p now) 0 n refl h
-
   -- at `hard` no start is called for, and so no reply is taken
   pub none-at-hard : cfg .hard ≤ s .cur .ep .sent → calledFor s cfg p now ≡ false
   unfolding calledFor

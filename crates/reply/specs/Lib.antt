@@ -1,2 +1,3 @@
 pub mod Reply
 pub mod Laws
+pub mod Exact

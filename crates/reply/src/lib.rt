@@ -5,6 +5,7 @@ ghost use Prim.Native.Nat.{_+_};
 ghost use Rattle.time.specs.Time.{least};
 ghost use Rattle.params.specs.Params.{valueOr};
 ghost use Rattle.reply.specs.Reply.{setupRtt, setupFirst, setupSched, attemptSched, attemptTime, attemptOf, raisesSilence, silenceAfter, memoryAfter, startedOf, takenOf, replyRefused, replyOf};
+ghost use Rattle.reply.specs.Exact.{ReplyExact};
 use cycle::Attempt;
 use epoch::Index;
 use ladder::Ladder;
@@ -210,7 +211,8 @@ fn send_back(s: State, cfg: Config, profile: Profile, time: u64) -> Refused
 
 // A start reply. A refused call hands back the state that it was given.
 pub fn reply(s: State, cfg: Config, profile: Profile, time: u64, r: StartReply) -> Replied
-    ensures { λ a. ⌜ a ≡ replyOf s cfg profile time r ⌝ }
+    ensures reply { λ a. ⌜ a ≡ replyOf s cfg profile time r ⌝ }
+    ensures exact { λ a. ⌜ ReplyExact s cfg profile time (replyOf s cfg profile time r) ⌝ }
 {
     let back = send_back(s, cfg, profile, time);
     if back.number != 0 {

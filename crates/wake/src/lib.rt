@@ -184,7 +184,8 @@ pub fn exhausted(s: State, cfg: Config) -> bool
     false
 }
 
-// The earliest instant at which a poll has work: a stored deadline or a start condition.
+// The wake: the least instant that a stored deadline, a ladder or a start condition names. It counts the
+// ladders of a waiting initiator under every wait, so it may come before there is anything to do.
 pub fn next_wake(s: State, cfg: Config, p: Profile) -> When
     ensures { λ r. ⌜ r ≡ wakeOf s cfg p ⌝ }
 {
