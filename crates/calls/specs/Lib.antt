@@ -4,3 +4,4 @@ pub mod Told
 pub mod Read
 pub mod Laws
 pub mod Exact
+pub mod Answer

@@ -7,9 +7,10 @@ ghost use Rattle.events.specs.Events.{Bind, Prompt};
 ghost use Rattle.time.specs.Time.{at as atOf};
 ghost use Rattle.calls.specs.Blank.{noLadder, noFinal, noRepeats, noEpoch, noCurrent, noDrain, noAttempt, noPendI, noPendR, idle as idleOf, noCandidates};
 ghost use Rattle.calls.specs.Open.{whenever as wheneverOf, newMemory, firstEpoch, alone as aloneOf, freshState, blankState, installOut, openOf};
+ghost use Rattle.calls.specs.Answer.{Opens};
 ghost use Rattle.calls.specs.Told.{belowHeld, toldNumber, toldState, toldOf};
 ghost use Rattle.calls.specs.Read.{wokeOf, kindShown, quietTime, statusOf};
-ghost use Rattle.calls.specs.Exact.{ToldExact, WakeExact, StatusExact};
+ghost use Rattle.calls.specs.Exact.{OpenExact, ToldExact, WakeExact, StatusExact};
 use candidates::Candidates;
 use cycle::Attempt;
 use cycle::Cycle;
@@ -398,8 +399,10 @@ pub fn open(
     time: u64,
     log: &mut [u64; 768],
 ) -> Opened
-    ensures { λ r. ⌜ (r .number ≡ openOf cfg p responder transport lease workers spread time .number) × ((r .place ≡ openOf cfg p responder transport lease workers spread time .place) × ((r .state ≡ openOf cfg p responder transport lease workers spread time .state) × (at (r .len) (now (log .exit)) ≡ logged (at 0 (now (log .entry))) (openOf cfg p responder transport lease workers spread time .out)))) ⌝ }
+    ensures open { λ r. ⌜ Opens (openOf cfg p responder transport lease workers spread time) r (now (log .entry)) (now (log .exit)) ⌝ }
+    ensures exact { λ r. ⌜ OpenExact cfg p spread (openOf cfg p responder transport lease workers spread time) ⌝ }
 {
+    let _n = lengths::words(log);
     let back = refusal::before_open(cfg, p, spread);
     if back.number != 0 {
         let none = blank();

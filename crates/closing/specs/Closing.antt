@@ -65,6 +65,10 @@ waitsFor kind wait = isPendI kind && waitsEvidence wait
 unfoldable pub sealing : State → List Event → List Event
 sealing s = kept (stays (given (s .cur .some) (s .cur .ep .tag)) (given (waitsFor (s .cycle .kind) (s .cycle .pendi .wait)) (s .cycle .pendi .ep .tag)))
 
+-- what the passes told, the tests, the start and the offers, with every prompt still there
+abbrev pub unsealed : State → Given → Bool → List Event → List Event
+unsealed s g ended told = going s g (endsNow s (g .cfg) ended) (told ++ testsOut s (g .cfg) ended)
+
 -- all of it, after what the passes told
 unfoldable pub closing : State → Given → Bool → List Event → List Event
-closing s g ended told = sealing s (going s g (endsNow s (g .cfg) ended) (told ++ testsOut s (g .cfg) ended))
+closing s g ended told = sealing s (unsealed s g ended told)

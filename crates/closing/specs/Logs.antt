@@ -2,23 +2,25 @@
 use Prim.Native.Nat.{ℕ, _≤_, _+_}
 use mathlib.Core.Bool.{Bool, true, false, not, _&&_, _||_}
 use mathlib.Core.Path.{_≡_, refl, sym, _∙_, ap}
-use mathlib.Core.List.{List, [], _∷_, _++_, map}
+use mathlib.Core.List.{List, [], _∷_, _++_}
 use native.Mathlib.Omega.{arith}
 use lib.ListN.{length, length-append}
 use Rattle.time.specs.Pick.{pick}
 use Rattle.epoch.specs.declared.Epoch.{Epoch}
 use Rattle.state.specs.declared.State.{State}
 use Rattle.state.specs.declared.Given.{Given}
-use Rattle.events.specs.Events.{Event, Teardown, Start, wordsOf}
+use Rattle.events.specs.Events.{Event, Teardown, Start}
 use Rattle.events.specs.Numbers.{teardownOpeningIdle, teardownCounterExhausted}
-use Rattle.events.specs.Log.{Log, at, held, logged, logged-append}
+use Rattle.events.specs.Log.{Log, at, logged, logged-append}
 use Rattle.events.specs.Queries.{anyOf, offers, offeredIn, offered-answer}
-use Rattle.events.specs.Withdraw.{given, withdrawn, withdrawn-answer, withdrawn-count}
+use Rattle.events.specs.Withdraw.{given, withdrawn}
+use Rattle.answer.specs.Written.{over}
+use Rattle.answer.specs.Laws.{withdrawn-over}
 use Rattle.start.specs.Start.{startKind, calledFor}
 use Rattle.wake.specs.Wake.{exhausted}
 use Rattle.retire.specs.Retire.{only, delegateOut}
 use Rattle.retire.specs.Most.{only-most, delegate-most}
-use Rattle.closing.specs.Closing.{idleNow, testsOut, endsNow, startOut, offerOut, offering, going, waitsFor, sealing, closing}
+use Rattle.closing.specs.Closing.{idleNow, testsOut, endsNow, startOut, offerOut, offering, going, waitsFor, sealing, unsealed, closing}
 
 -- the offer of an epoch, where the log holds none
 unfoldable pub offerLog : Bool → Epoch → Bool → Log → Log
@@ -68,6 +70,11 @@ going-most s g false told =
       offer-most (s .drain .some) (s .drain .ep) (g .workers) (offering (s .cur .some) (s .cur .ep) (g .workers) (told ++ startOut s g)),
     ))
 
+-- two tests, a start and two offers
+pub unsealed-most : (s : State) (g : Given) (ended : Bool) (told : List Event) → length (unsealed s g ended told) ≤ length told + 5
+unsealed-most s g ended told =
+    omega (arith, going-most s g (endsNow s (g .cfg) ended) (told ++ testsOut s (g .cfg) ended), length-append told (testsOut s (g .cfg) ended), tests-most s g ended)
+
 -- ---- the log holds what the lists say
 
 module _ (ws : List ℕ) (wide : length ws ≡ 768) where
@@ -100,32 +107,11 @@ module _ (ws : List ℕ) (wide : length ws ≡ 768) where
       room : length begun ≤ 91
       room = simp length-append (omega (arith, start-most s g, h))
 
-  module _ (s : State) (g : Given) (ended : Bool) (told : List Event) (room : length told ≤ 88) where
-    before : List Event
-    before = going s g (endsNow s (g .cfg) ended) (told ++ testsOut s (g .cfg) ended)
-
-    before-most : length before ≤ 96
-    unfolding before
-    before-most =
-        let t : length (told ++ testsOut s (g .cfg) ended) ≤ 90 = simp length-append (omega (arith, room, tests-most s g ended)) in
-        omega (arith, t, going-most s g (endsNow s (g .cfg) ended) (told ++ testsOut s (g .cfg) ended))
-
-    before-told : goLog s g (endsNow s (g .cfg) ended) (logged (logged (at 0 ws) told) (testsOut s (g .cfg) ended)) ≡ logged (at 0 ws) before
-    unfolding before
-    before-told =
-        ap (goLog s g (endsNow s (g .cfg) ended)) (sym (logged-append (at 0 ws) told (testsOut s (g .cfg) ended)))
-        ∙ go-told s g (endsNow s (g .cfg) ended) (told ++ testsOut s (g .cfg) ended) (simp length-append (omega (arith, room, tests-most s g ended)))
-
-    -- what is read back is what the list says, in order
-    pub closed-held : held (closedLog s g ended (logged (at 0 ws) told)) ≡ map wordsOf (closing s g ended told)
-    unfolding closedLog closing sealing before
-    closed-held =
-        ap (λ v. held (withdrawn (given (s .cur .some) (s .cur .ep .tag)) (given (waitsFor (s .cycle .kind) (s .cycle .pendi .wait)) (s .cycle .pendi .ep .tag)) v)) before-told
-        ∙ withdrawn-answer (given (s .cur .some) (s .cur .ep .tag)) (given (waitsFor (s .cycle .kind) (s .cycle .pendi .wait)) (s .cycle .pendi .ep .tag)) ws before before-most wide
-
-    -- and the length is how many there are
-    pub closed-count : closedLog s g ended (logged (at 0 ws) told) .len ≡ length (closing s g ended told)
-    unfolding closedLog closing sealing before
-    closed-count =
-        ap (λ v. withdrawn (given (s .cur .some) (s .cur .ep .tag)) (given (waitsFor (s .cycle .kind) (s .cycle .pendi .wait)) (s .cycle .pendi .ep .tag)) v .len) before-told
-        ∙ withdrawn-count (given (s .cur .some) (s .cur .ep .tag)) (given (waitsFor (s .cycle .kind) (s .cycle .pendi .wait)) (s .cycle .pendi .ep .tag)) ws before before-most wide
+  -- the events that stay are written over all of them
+  pub closed-told : (s : State) (g : Given) (ended : Bool) (told : List Event) → length told ≤ 88 → closedLog s g ended (logged (at 0 ws) told) ≡ logged (at 0 (over (unsealed s g ended told) ws)) (closing s g ended told)
+  unfolding closedLog closing sealing
+  closed-told s g ended told h =
+      ap (withdrawn (given (s .cur .some) (s .cur .ep .tag)) (given (waitsFor (s .cycle .kind) (s .cycle .pendi .wait)) (s .cycle .pendi .ep .tag)))
+      (ap (goLog s g (endsNow s (g .cfg) ended)) (sym (logged-append (at 0 ws) told (testsOut s (g .cfg) ended)))
+      ∙ go-told s g (endsNow s (g .cfg) ended) (told ++ testsOut s (g .cfg) ended) (simp length-append (omega (arith, tests-most s g ended))))
+      ∙ withdrawn-over (given (s .cur .some) (s .cur .ep .tag)) (given (waitsFor (s .cycle .kind) (s .cycle .pendi .wait)) (s .cycle .pendi .ep .tag)) ws (unsealed s g ended told) (omega (arith, unsealed-most s g ended told)) wide

@@ -8,11 +8,11 @@ use native.Mathlib.Numerals.{add-one}
 use native.Mathlib.Nat.{sub-zero, zero-add}
 use borrow.Author.Tests.{lt-ltb}
 use lib.Dec.{ltb}
-use lib.ListN.{length, getD, set, length-map, length-set}
+use lib.ListN.{length, getD, set, length-set}
 use lib.Seq.{sets, length-sets, getD-set-same, getD-set-other}
 use Rattle.time.specs.Pick.{pick}
 use Rattle.time.specs.Time.{least-left, least-le}
-use Rattle.time.specs.Lists.{range, length-range}
+use Rattle.time.specs.Lists.{range}
 use Rattle.events.specs.Events.{Event, wordsOf, eight-words}
 use Rattle.events.specs.Log.{Log, at, stored, pushed, logged, placeOf, takenOf, placesOf, held}
 
@@ -68,9 +68,6 @@ module _ (ws w : List ℕ) (i : ℕ) (long : length w ≡ 8) where
   stays-behind j h =
       let word : (k : ℕ) → i * 8 + 8 ≤ k → getD (sets ws (i * 8) w) k 0 ≡ getD ws k 0 = λ k p. behind w ws (i * 8) k (omega arith) in
       rw (word (j * 8) (omega arith), word (j * 8 + 1) (omega arith), word (j * 8 + 2) (omega arith), word (j * 8 + 3) (omega arith), word (j * 8 + 4) (omega arith), word (j * 8 + 5) (omega arith), word (j * 8 + 6) (omega arith), word (j * 8 + 7) (omega arith))
-
-pub place-long : (ws : List ℕ) (i : ℕ) → length (placeOf ws i) ≡ 8
-place-long ws i = refl
 
 pub same-on : (f g : ℕ → List ℕ) (i n : ℕ) → ((j : ℕ) → i ≤ j → j < i + n → f j ≡ g j) → map f (range i n) ≡ map g (range i n)
 unfolding range
@@ -147,9 +144,6 @@ pub held-empty : (ws : List ℕ) → held (at 0 ws) ≡ []
 unfolding at range
 held-empty ws = held-taken (at 0 ws) (omega arith)
 
-pub length-held : (v : Log) → v .len ≤ 96 → length (held v) ≡ v .len
-length-held v h = rw (held-taken v h, length-map, length-range)
-
 pub held-stored : (v : Log) (w : List ℕ) → v .len < 96 → length (v .words) ≡ 768 → length w ≡ 8 → held (stored v w) ≡ held v ++ (w ∷ [])
 held-stored v w h k long =
     let first : map (placeOf (stored v w .words)) (range 0 (v .len)) ≡ held v = same-on (placeOf (stored v w .words)) (placeOf (v .words)) 0 (v .len) (λ j p q. stored-before v w j long (omega arith)) ∙ sym (held-taken v (omega arith)) in
@@ -158,11 +152,6 @@ held-stored v w h k long =
     ∙ rw (stored-len v w h, add-one, range-last 0 (v .len), map-append, first, zero-add) (ap (λ (l : List ℕ). held v ++ (l ∷ [])) last)
 
 -- ---- a list of events
-
-pub logged-long : (v : Log) (es : List Event) → length (logged v es .words) ≡ length (v .words)
-unfolding pushed
-logged-long v [] = refl
-logged-long v (e ∷ es) = logged-long (stored v (wordsOf e)) es ∙ stored-long v (wordsOf e)
 
 -- while there is room, the length grows by the number of events
 pub logged-len : (v : Log) (es : List Event) → v .len + length es ≤ 96 → logged v es .len ≡ v .len + length es

@@ -1,7 +1,8 @@
 // The call of a frame: a frame from the peer that authenticated is taken, or sent back by number.
 ghost use mathlib.Core.Path.{_≡_};
-ghost use Rattle.events.specs.Log.{at, logged};
+ghost use Rattle.frames.specs.Exact.{FrameExact};
 ghost use Rattle.frames.specs.Frames.{frameRefused, givenOf, frameAnswer};
+ghost use Rattle.frames.specs.Answer.{Hears};
 use frame::FrameProof;
 use refusal::Refused;
 use settings::Config;
@@ -62,8 +63,10 @@ pub fn frame(
     target: &mut [u8],
     log: &mut [u64; 768],
 ) -> Heard
-    ensures { λ r. ⌜ (r .number ≡ frameAnswer s cfg profile time workers spread p body (now (source .entry)) (now (target .entry)) .number) × ((r .place ≡ frameAnswer s cfg profile time workers spread p body (now (source .entry)) (now (target .entry)) .place) × ((r .state ≡ frameAnswer s cfg profile time workers spread p body (now (source .entry)) (now (target .entry)) .state) × ((now (target .exit) ≡ frameAnswer s cfg profile time workers spread p body (now (source .entry)) (now (target .entry)) .target) × (at (r .len) (now (log .exit)) ≡ logged (at 0 (now (log .entry))) (frameAnswer s cfg profile time workers spread p body (now (source .entry)) (now (target .entry)) .out))))) ⌝ }
+    ensures frame { λ r. ⌜ Hears (frameAnswer s cfg profile time workers spread p body (now (source .entry)) (now (target .entry))) r (now (target .exit)) (now (log .entry)) (now (log .exit)) ⌝ }
+    ensures exact { λ r. ⌜ FrameExact s cfg profile spread p (now (target .entry)) (frameAnswer s cfg profile time workers spread p body (now (source .entry)) (now (target .entry))) ⌝ }
 {
+    let _n = lengths::words(log);
     let back = send_back(s, cfg, profile, spread, p.slot, p.tag);
     if back.number != 0 {
         return Heard {

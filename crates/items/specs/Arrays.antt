@@ -68,11 +68,9 @@ pub record Inserted (at kind key : List ℕ) (n : ℕ) (x : Item) (at′ kind′
   pub count : r ≡ counted most n
   pub items : itemsOf at′ kind′ key′ r ≡ pick (ltb n most) (insert x (itemsOf at kind key n)) (itemsOf at kind key n)
   pub full : most ≤ n → (at′ ≡ at) × (kind′ ≡ kind) × (key′ ≡ key)
-  pub wide : Wide most at′ kind′ key′
 
 -- an item's name put after n, where there is room
 pub record Noted (kind key : List ℕ) (n : ℕ) (x : Item) (kind′ key′ : List ℕ) (r : ℕ) : Type 0 where
   pub count : r ≡ counted mostListed n
   pub list : listOf kind′ key′ r ≡ pick (ltb n mostListed) (listOf kind key n ++ (untimed x ∷ [])) (listOf kind key n)
   pub full : mostListed ≤ n → (kind′ ≡ kind) × (key′ ≡ key)
-  pub wide : (length kind′ ≡ mostListed) × (length key′ ≡ mostListed)

@@ -9,7 +9,7 @@ ghost use Prim.Native.Nat.{_≤_, _<_};
 ghost use lib.ListN.{length};
 ghost use Rattle.time.specs.Time.{least};
 ghost use Rattle.items.specs.Items.{item, before, names, listedIn};
-ghost use Rattle.items.specs.Arrays.{most, mostListed, itemsOf, placeFor, opened, listOf, Wide, Inserted, Noted};
+ghost use Rattle.items.specs.Arrays.{most, mostListed, itemsOf, placeFor, opened, listOf, Inserted, Noted};
 
 // The kinds, by their place in `enum Due`. `RESEND` and `EXPIRE` have the key 0.
 pub const DRAIN: u64 = 0;
@@ -80,7 +80,7 @@ fn place<'a>(
 // `x` is put at place `i` of `n`: what stands there and after it moves up by one.
 fn put_at(a: &mut [u64; 40], i: usize, n: usize, x: u64)
     requires { ⌜ (i ≤ n) × (n < most) × (length (now a) ≡ most) ⌝ }
-    ensures { λ _. ⌜ (now (a .exit) ≡ opened i n x (now (a .entry))) × (length (now (a .exit)) ≡ most) ⌝ }
+    ensures { λ _. ⌜ now (a .exit) ≡ opened i n x (now (a .entry)) ⌝ }
 {
     let mut j = n;
     while i < j {
@@ -101,12 +101,14 @@ pub fn insert(
     k: u64,
     x: u64,
 ) -> usize
-    requires { ⌜ Wide most (now at) (now kind) (now key) ⌝ }
     ensures { λ r. ⌜ Inserted (now (at .entry)) (now (kind .entry)) (now (key .entry)) n (item t k x) (now (at .exit)) (now (kind .exit)) (now (key .exit)) r ⌝ }
 {
     if 40 <= n {
         return n;
     }
+    let _at = lengths::words(at);
+    let _kind = lengths::words(kind);
+    let _key = lengths::words(key);
     let i = place(at, kind, key, n, t, k, x);
     put_at(at, i, n, t);
     put_at(kind, i, n, k);
@@ -139,12 +141,13 @@ pub fn listed<'a>(kind: &'a [u64; 120], key: &'a [u64; 120], n: usize, k: u64, x
 // A kind and a key are put after the first `n`; how many there are then. Three passes list 120 at
 // most, and where there are 120 nothing changes.
 pub fn note(kind: &mut [u64; 120], key: &mut [u64; 120], n: usize, k: u64, x: u64) -> usize
-    requires { ⌜ (length (now kind) ≡ mostListed) × (length (now key) ≡ mostListed) ⌝ }
     ensures { λ r. ⌜ Noted (now (kind .entry)) (now (key .entry)) n (item 0 k x) (now (kind .exit)) (now (key .exit)) r ⌝ }
 {
     if 120 <= n {
         return n;
     }
+    let _kind = lengths::words(kind);
+    let _key = lengths::words(key);
     let next = n + 1;
     kind[n] = k;
     key[n] = x;

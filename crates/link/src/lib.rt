@@ -2,16 +2,21 @@
 // promises. Records cross by value, laid out as C does; no enum crosses; the log and a frame's two
 // buffers are lent.
 ghost use mathlib.Core.Path.{_≡_};
-ghost use Rattle.events.specs.Log.{at, logged};
 ghost use Rattle.settings.specs.Settings.{fmp, fsp, placeOf};
 ghost use Rattle.calls.specs.Open.{openOf};
+ghost use Rattle.calls.specs.Answer.{Opens};
+ghost use Rattle.calls.specs.Exact.{OpenExact, ToldExact, WakeExact, StatusExact};
 ghost use Rattle.calls.specs.Told.{toldOf};
 ghost use Rattle.calls.specs.Read.{wokeOf, statusOf};
 ghost use Rattle.sample.specs.Sample.{wholeOf, valuesOf, flagsOf, besideOf, proofOf, answerOf};
 ghost use Rattle.frames.specs.Frames.{frameAnswer};
+ghost use Rattle.frames.specs.Answer.{Hears};
+ghost use Rattle.frames.specs.Exact.{FrameExact};
 ghost use Rattle.reply.specs.Reply.{replyOf};
+ghost use Rattle.reply.specs.Exact.{ReplyExact};
 ghost use Rattle.poll.specs.Poll.{pollOf};
-ghost use Rattle.poll.specs.Answer.{Answers};
+ghost use Rattle.poll.specs.Answer.{writtenOf, Answers};
+ghost use Rattle.poll.specs.Exact.{PollExact};
 ghost use Rattle.poll.specs.Link.{TwoRuns};
 ghost use Rattle.link.specs.Quiet.{Tells};
 use calls::Counted;
@@ -66,7 +71,8 @@ pub extern "C" fn siklyavon_open(
     time: u64,
     log: &mut [u64; 768],
 ) -> Opened
-    ensures { λ r. ⌜ (r .number ≡ openOf cfg p responder transport lease workers spread time .number) × ((r .place ≡ openOf cfg p responder transport lease workers spread time .place) × ((r .state ≡ openOf cfg p responder transport lease workers spread time .state) × (at (r .len) (now (log .exit)) ≡ logged (at 0 (now (log .entry))) (openOf cfg p responder transport lease workers spread time .out)))) ⌝ }
+    ensures open { λ r. ⌜ Opens (openOf cfg p responder transport lease workers spread time) r (now (log .entry)) (now (log .exit)) ⌝ }
+    ensures exact { λ r. ⌜ OpenExact cfg p spread (openOf cfg p responder transport lease workers spread time) ⌝ }
 {
     calls::open(
         cfg,
@@ -93,7 +99,8 @@ pub extern "C" fn siklyavon_poll(
     extra: u32,
     log: &mut [u64; 768],
 ) -> Polled
-    ensures poll { λ r. ⌜ Answers (pollOf s cfg p time workers spread extra) r (now (log .entry)) (now (log .exit)) ⌝ }
+    ensures poll { λ r. ⌜ Answers (pollOf s cfg p time workers spread extra) (writtenOf s cfg p time workers spread extra) r (now (log .entry)) (now (log .exit)) ⌝ }
+    ensures exact { λ r. ⌜ PollExact s cfg p spread extra (pollOf s cfg p time workers spread extra) ⌝ }
     ensures runs { λ r. ⌜ TwoRuns ⌝ }
 {
     poll::poll(s, cfg, p, time, workers, spread, extra, log)
@@ -115,7 +122,8 @@ pub extern "C" fn siklyavon_frame(
     target: &mut [u8],
     log: &mut [u64; 768],
 ) -> Heard
-    ensures frame { λ r. ⌜ (r .number ≡ frameAnswer s cfg profile time workers spread p body (now (source .entry)) (now (target .entry)) .number) × ((r .place ≡ frameAnswer s cfg profile time workers spread p body (now (source .entry)) (now (target .entry)) .place) × ((r .state ≡ frameAnswer s cfg profile time workers spread p body (now (source .entry)) (now (target .entry)) .state) × ((now (target .exit) ≡ frameAnswer s cfg profile time workers spread p body (now (source .entry)) (now (target .entry)) .target) × (at (r .len) (now (log .exit)) ≡ logged (at 0 (now (log .entry))) (frameAnswer s cfg profile time workers spread p body (now (source .entry)) (now (target .entry)) .out))))) ⌝ }
+    ensures frame { λ r. ⌜ Hears (frameAnswer s cfg profile time workers spread p body (now (source .entry)) (now (target .entry))) r (now (target .exit)) (now (log .entry)) (now (log .exit)) ⌝ }
+    ensures exact { λ r. ⌜ FrameExact s cfg profile spread p (now (target .entry)) (frameAnswer s cfg profile time workers spread p body (now (source .entry)) (now (target .entry))) ⌝ }
     ensures runs { λ r. ⌜ TwoRuns ⌝ }
 {
     frames::frame(
@@ -143,6 +151,7 @@ pub extern "C" fn siklyavon_reply(
     r: StartReply,
 ) -> Replied
     ensures reply { λ a. ⌜ a ≡ replyOf s cfg profile time r ⌝ }
+    ensures exact { λ a. ⌜ ReplyExact s cfg profile time (replyOf s cfg profile time r) ⌝ }
     ensures runs { λ a. ⌜ TwoRuns ⌝ }
 {
     reply::reply(s, cfg, profile, time, r)
@@ -153,6 +162,7 @@ pub extern "C" fn siklyavon_reply(
 #[no_mangle]
 pub extern "C" fn siklyavon_sent(s: State, time: u64, count: u64) -> Counted
     ensures sent { λ r. ⌜ r ≡ toldOf s count ⌝ }
+    ensures exact { λ r. ⌜ ToldExact s count (toldOf s count) ⌝ }
     ensures runs { λ r. ⌜ TwoRuns ⌝ }
 {
     calls::told(s, time, count)
@@ -162,7 +172,8 @@ pub extern "C" fn siklyavon_sent(s: State, time: u64, count: u64) -> Counted
 // clause of demand 3 has the conditions). It may itself come too early.
 #[no_mangle]
 pub extern "C" fn siklyavon_wake(s: State, cfg: Config, p: Profile) -> Woke
-    ensures { λ r. ⌜ r ≡ wokeOf s cfg p ⌝ }
+    ensures wake { λ r. ⌜ r ≡ wokeOf s cfg p ⌝ }
+    ensures exact { λ r. ⌜ WakeExact s cfg p (wokeOf s cfg p) ⌝ }
 {
     calls::wake(s, cfg, p)
 }
@@ -170,7 +181,8 @@ pub extern "C" fn siklyavon_wake(s: State, cfg: Config, p: Profile) -> Woke
 // The link line.
 #[no_mangle]
 pub extern "C" fn siklyavon_status(s: State, cfg: Config, p: Profile, time: u64) -> Shown
-    ensures { λ r. ⌜ r ≡ statusOf s cfg p time ⌝ }
+    ensures status { λ r. ⌜ r ≡ statusOf s cfg p time ⌝ }
+    ensures exact { λ r. ⌜ StatusExact s cfg p (statusOf s cfg p time) ⌝ }
 {
     calls::status(s, cfg, p, time)
 }

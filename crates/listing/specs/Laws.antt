@@ -12,7 +12,7 @@ use Rattle.time.specs.Pick.{pick}
 use Rattle.time.specs.Lists.{fold, range, kept, fold-append, range-next, range-end}
 use Rattle.candidates.specs.Held.{Candidate, heldOf, heldBy, candAt}
 use Rattle.items.specs.Items.{Item, item, insert, sorted, names, listedIn}
-use Rattle.items.specs.Arrays.{most, itemsFrom, itemsOf, Wide, Inserted}
+use Rattle.items.specs.Arrays.{most, itemsFrom, itemsOf, Inserted}
 use Rattle.items.specs.Laws.{items-end, length-items}
 use Rattle.state.specs.declared.State.{State}
 use Rattle.state.specs.Parts.{listed}
@@ -57,8 +57,8 @@ module _ (done : List Item) (now : ℕ) where
 
 module _ {done : List Item} {time : ℕ} where
   -- nothing is offered
-  pub offer-nothing : (k : ℕ) {at kind key : List ℕ} {n : ℕ} → Wide most at kind key → Offered done time [] k at kind key n at kind key n
-  offer-nothing k w = record { items = sym (offered-none done time _); count = omega arith; wide = w }
+  pub offer-nothing : (k : ℕ) {at kind key : List ℕ} {n : ℕ} → Offered done time [] k at kind key n at kind key n
+  offer-nothing k = record { items = sym (offered-none done time _); count = omega arith }
 
   -- one list is offered after another
   pub offer-then :
@@ -69,17 +69,16 @@ module _ {done : List Item} {time : ℕ} where
       record {
         items = b .items ∙ (ap (λ s. offered done time s m) (a .items) ∙ sym (offered-append done time (itemsOf at kind key n) l m));
         count = let p : _ = a .count in let q : _ = b .count in omega arith;
-        wide = b .wide;
       }
 
   module _ {at kind key : List ℕ} {n : ℕ} (t k x : ℕ) where
     -- an item that is not due
-    pub offer-later : Wide most at kind key → time < t → Offered done time (item t k x ∷ []) 1 at kind key n at kind key n
-    offer-later w h = record { items = sym (offered-one done time (itemsOf at kind key n) t k x false (listedIn (item t k x) done) (lt-leb t time h) refl); count = omega arith; wide = w }
+    pub offer-later : time < t → Offered done time (item t k x ∷ []) 1 at kind key n at kind key n
+    offer-later h = record { items = sym (offered-one done time (itemsOf at kind key n) t k x false (listedIn (item t k x) done) (lt-leb t time h) refl); count = omega arith }
 
     -- one that an earlier pass listed
-    pub offer-old : Wide most at kind key → t ≤ time → listedIn (item 0 k x) done ≡ true → Offered done time (item t k x ∷ []) 1 at kind key n at kind key n
-    offer-old w h e = record { items = sym (offered-one done time (itemsOf at kind key n) t k x true true (le-leb t time h) (timeless t 0 k x done ∙ e)); count = omega arith; wide = w }
+    pub offer-old : t ≤ time → listedIn (item 0 k x) done ≡ true → Offered done time (item t k x ∷ []) 1 at kind key n at kind key n
+    offer-old h e = record { items = sym (offered-one done time (itemsOf at kind key n) t k x true true (le-leb t time h) (timeless t 0 k x done ∙ e)); count = omega arith }
 
     -- one that none listed
     pub offer-new :
@@ -90,7 +89,6 @@ module _ {done : List Item} {time : ℕ} where
         record {
           items = i .items ∙ (ap (λ c. pick c (insert (item t k x) (itemsOf at kind key n)) (itemsOf at kind key n)) q ∙ sym (offered-one done time (itemsOf at kind key n) t k x true false (le-leb t time h) (timeless t 0 k x done ∙ e)));
           count = let s : r ≡ n + 1 = i .count ∙ ap (λ c. pick c (n + 1) n) q in omega arith;
-          wide = i .wide;
         }
 
 -- ---- the candidates
@@ -151,7 +149,7 @@ collected {done} {time} s {l} {k} {at} {kind} {key} {at′} {kind′} {key′} {
     let p : itemsOf at′ kind′ key′ r ≡ passItems done s time =
     o .items
     ∙ (ap₂ (offered done time) (items-end at kind key 0 0 (omega arith)) (e ∙ sym (named-parts s)) ∙ pass-offered done s time) in
-    record { items = p; count = sym (length-items at′ kind′ key′ 0 r ∙ sub-zero r) ∙ ap length p; room = let c : r ≤ 0 + k = o .count in omega arith; wide = o .wide }
+    record { items = p; count = sym (length-items at′ kind′ key′ 0 r ∙ sub-zero r) ∙ ap length p; room = let c : r ≤ 0 + k = o .count in omega arith }
 
 -- what the code offers, part by part, is what `due` names
 pub parts-named :

@@ -7,7 +7,7 @@ use lib.ListN.{length, getD}
 use Rattle.time.specs.declared.When.{When}
 use Rattle.time.specs.Lists.{fold, range, kept}
 use Rattle.items.specs.Items.{Item, item, insert, sorted, listedIn}
-use Rattle.items.specs.Arrays.{most, itemsOf, Wide}
+use Rattle.items.specs.Arrays.{most, itemsOf}
 use Rattle.state.specs.declared.State.{State}
 use Rattle.start.specs.Start.{instants}
 use Rattle.wake.specs.Kinds.{dueCandidate}
@@ -46,11 +46,9 @@ waitingFrom deadline seq i n = map (λ j. item (getD deadline j 0) dueCandidate 
 pub record Offered (done : List Item) (time : ℕ) (l : List Item) (k : ℕ) (at kind key : List ℕ) (n : ℕ) (at′ kind′ key′ : List ℕ) (r : ℕ) : Type 0 where
   pub items : itemsOf at′ kind′ key′ r ≡ offered done time (itemsOf at kind key n) l
   pub count : r ≤ n + k
-  pub wide : Wide most at′ kind′ key′
 
 -- the items of a pass stand in order in the first r places
 pub record Collected (done : List Item) (s : State) (time : ℕ) (at kind key : List ℕ) (r : ℕ) : Type 0 where
   pub items : itemsOf at kind key r ≡ passItems done s time
   pub count : r ≡ length (passItems done s time)
   pub room : r ≤ most
-  pub wide : Wide most at kind key

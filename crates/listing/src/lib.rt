@@ -7,7 +7,7 @@ ghost use Prim.Native.Nat.{_≤_, _<_, _+_};
 ghost use Rattle.time.specs.Pick.{pick};
 ghost use Rattle.candidates.specs.Held.{heldOf};
 ghost use Rattle.items.specs.Items.{item};
-ghost use Rattle.items.specs.Arrays.{most, listOf, Wide};
+ghost use Rattle.items.specs.Arrays.{most, listOf};
 ghost use Rattle.start.specs.Start.{instants};
 ghost use Rattle.wake.specs.Due.{ladderInstants, mayInstants, finInstants, itemsAt, pendingItems, cycleItems, currentItems};
 ghost use Rattle.listing.specs.Listing.{twoItems, waitingFrom, Offered, Collected};
@@ -163,7 +163,7 @@ fn offer<'a>(
     k: u64,
     x: u64,
 ) -> usize
-    requires { ⌜ (Wide most (now at) (now kind) (now key)) × (n < most) ⌝ }
+    requires { ⌜ n < most ⌝ }
     ensures { λ r. ⌜ Offered (listOf (now (dk .entry)) (now (dx .entry)) dn) time (item t k x ∷ []) 1 (now (at .entry)) (now (kind .entry)) (now (key .entry)) n (now (at .exit)) (now (kind .exit)) (now (key .exit)) r ⌝ }
 {
     if t <= time {
@@ -189,7 +189,7 @@ fn offer_when<'a>(
     k: u64,
     x: u64,
 ) -> usize
-    requires { ⌜ (Wide most (now at) (now kind) (now key)) × (n < most) ⌝ }
+    requires { ⌜ n < most ⌝ }
     ensures { λ r. ⌜ Offered (listOf (now (dk .entry)) (now (dx .entry)) dn) time (itemsAt k x (instants w)) 1 (now (at .entry)) (now (kind .entry)) (now (key .entry)) n (now (at .exit)) (now (kind .exit)) (now (key .exit)) r ⌝ }
 {
     if w.some {
@@ -210,7 +210,7 @@ fn offer_two<'a>(
     time: u64,
     t: Two,
 ) -> usize
-    requires { ⌜ (Wide most (now at) (now kind) (now key)) × (n + 2 ≤ most) ⌝ }
+    requires { ⌜ n + 2 ≤ most ⌝ }
     ensures { λ r. ⌜ Offered (listOf (now (dk .entry)) (now (dx .entry)) dn) time (twoItems t) 2 (now (at .entry)) (now (kind .entry)) (now (key .entry)) n (now (at .exit)) (now (kind .exit)) (now (key .exit)) r ⌝ }
 {
     let m = offer_when(at, kind, key, n, dk, dx, dn, time, t.first, t.kind, t.key);
@@ -231,7 +231,7 @@ fn offer_waiting<'a, 'b>(
     seq: &'b [u64; 32],
     len: usize,
 ) -> usize
-    requires { ⌜ (Wide most (now at) (now kind) (now key)) × ((len ≤ 32) × (n + len ≤ most)) ⌝ }
+    requires { ⌜ (len ≤ 32) × (n + len ≤ most) ⌝ }
     ensures { λ r. ⌜ Offered (listOf (now (dk .entry)) (now (dx .entry)) dn) time (waitingFrom (now (deadline .entry)) (now (seq .entry)) 0 len) len (now (at .entry)) (now (kind .entry)) (now (key .entry)) n (now (at .exit)) (now (kind .exit)) (now (key .exit)) r ⌝ }
 {
     let mut m = n;
@@ -262,7 +262,6 @@ pub fn collect<'a>(
     kind: &mut [u64; 40],
     key: &mut [u64; 40],
 ) -> usize
-    requires { ⌜ Wide most (now at) (now kind) (now key) ⌝ }
     ensures { λ r. ⌜ Collected (listOf (now (dk .entry)) (now (dx .entry)) dn) s time (now (at .exit)) (now (kind .exit)) (now (key .exit)) r ⌝ }
 {
     let m = held(s.cands.len);

@@ -1,14 +1,21 @@
 -- One pass of a poll: `expire_pass` of machine.rs.
+use Prim.Native.Nat.{ℕ}
 use mathlib.Core.Bool.{Bool, true}
 use mathlib.Core.List.{List, _++_}
 use lib.IntN.{ℤ}
 use Rattle.time.specs.Pick.{pick}
 use Rattle.time.specs.Lists.{fold}
+use Rattle.time.specs.Time.{least}
 use Rattle.items.specs.Items.{Item}
+use Rattle.items.specs.Arrays.{most, listFrom}
 use Rattle.state.specs.declared.State.{State}
 use Rattle.state.specs.declared.Given.{Given}
 use Rattle.events.specs.Events.{Event}
 use Rattle.turn.specs.Turn.{Step, itemStep}
+
+-- the items of a pass as the code has them, by kind and key: the first n, 40 at most
+abbrev pub firstOf : List ℕ → List ℕ → ℕ → List Item
+firstOf kind key n = listFrom kind key 0 (least n most)
 
 -- the state, the events so far, and whether the link has ended
 pub record Work : Type 0 where

@@ -2,12 +2,12 @@
 ghost use mathlib.Core.Path.{_≡_};
 ghost use mathlib.Core.Bool.{Bool};
 ghost use mathlib.Core.List.{[]};
-ghost use Prim.Native.Nat.{_≤_};
 ghost use Rattle.time.specs.Pick.{pick};
-ghost use Rattle.items.specs.Arrays.{most, listFrom};
+ghost use Rattle.time.specs.Time.{least};
+ghost use Rattle.items.specs.Arrays.{most};
 ghost use Rattle.events.specs.Log.{at, logged};
 ghost use Rattle.turn.specs.Turn.{itemStep};
-ghost use Rattle.pass.specs.Pass.{workOf, passOf};
+ghost use Rattle.pass.specs.Pass.{firstOf, workOf, passOf};
 use state::Given;
 use state::State;
 use turn::Ran;
@@ -37,7 +37,14 @@ fn step(
     }
 }
 
-// Every item of a pass in order, also after one that ends the link.
+// `n`, at most 40.
+fn bounded(n: usize) -> usize
+    ensures { λ r. ⌜ r ≡ least n most ⌝ }
+{
+    if n <= 40 { n } else { 40 }
+}
+
+// Every item of a pass in order, also after one that ends the link; `n` above 40 counts as 40.
 pub fn run(
     s: State,
     g: Given,
@@ -49,14 +56,14 @@ pub fn run(
     len: usize,
     ended: bool,
 ) -> Ran
-    requires { ⌜ n ≤ most ⌝ }
-    ensures { λ r. ⌜ (r .state ≡ passOf g spread (listFrom (now (kind .entry)) (now (key .entry)) 0 n) (workOf s [] ended) .state) × ((at (r .len) (now (log .exit)) ≡ logged (at len (now (log .entry))) (passOf g spread (listFrom (now (kind .entry)) (now (key .entry)) 0 n) (workOf s [] ended) .out)) × (r .ended ≡ passOf g spread (listFrom (now (kind .entry)) (now (key .entry)) 0 n) (workOf s [] ended) .ended)) ⌝ }
+    ensures { λ r. ⌜ (r .state ≡ passOf g spread (firstOf (now (kind .entry)) (now (key .entry)) n) (workOf s [] ended) .state) × ((at (r .len) (now (log .exit)) ≡ logged (at len (now (log .entry))) (passOf g spread (firstOf (now (kind .entry)) (now (key .entry)) n) (workOf s [] ended) .out)) × (r .ended ≡ passOf g spread (firstOf (now (kind .entry)) (now (key .entry)) n) (workOf s [] ended) .ended)) ⌝ }
 {
+    let count = bounded(n);
     let mut st = s;
     let mut m = len;
     let mut ends = ended;
     let mut i = 0;
-    while i < n {
+    while i < count {
         let t = step(st, g, spread, kind[i], key[i], log, m);
         let next = t.state;
         st = next;

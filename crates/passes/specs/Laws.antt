@@ -11,16 +11,16 @@ use lib.ListN.{length, getD}
 use lib.Seq.{append-snoc}
 use Rattle.time.specs.Pick.{pick}
 use Rattle.time.specs.Lists.{range}
-use Rattle.time.specs.Time.{least}
+use Rattle.time.specs.Time.{least, least-left}
 use Rattle.items.specs.Items.{Item, item, untimed}
-use Rattle.items.specs.Arrays.{most, mostListed, itemsOf, listAt, listFrom, listOf, Wide, Noted}
+use Rattle.items.specs.Arrays.{most, mostListed, itemsOf, listAt, listFrom, listOf, Noted}
 use Rattle.state.specs.declared.State.{State}
 use Rattle.state.specs.declared.Given.{Given}
 use Rattle.events.specs.Events.{Event}
 use Rattle.events.specs.Log.{at, logged, after-all}
 use Rattle.turn.specs.declared.Ran.{Ran}
 use Rattle.listing.specs.Listing.{passItems, Collected}
-use Rattle.pass.specs.Pass.{Work, workOf, passOf}
+use Rattle.pass.specs.Pass.{firstOf, Work, workOf, passOf}
 use Rattle.pass.specs.Laws.{list-next, list-end, untimed-items, pass-named, pass-after}
 use Rattle.passes.specs.Passes.{Ended, ended, noting, passesOf, threePasses, Extended, Leaves}
 
@@ -72,13 +72,11 @@ module _ (s₀ : State) (g : Given) (spread : ℤ) (ws₀ : List ℕ) where
     pub log : at len ws ≡ logged (at 0 ws₀) out
     pub whole : threePasses s₀ g spread ≡ passesOf (3 - p) g spread (listOf dk dx dn) dn (workOf s out ends)
     pub room : dn ≤ 40 * p
-    pub kinds : length dk ≡ mostListed
-    pub keys : length dx ≡ mostListed
 
-  pub along-start : (dk dx : List ℕ) → length dk ≡ mostListed → length dx ≡ mostListed → Along 0 dk dx 0 s₀ 0 false ws₀
+  pub along-start : (dk dx : List ℕ) → Along 0 dk dx 0 s₀ 0 false ws₀
   unfolding threePasses
-  along-start dk dx a b =
-      record { out = []; log = refl; whole = ap (λ l. passesOf 3 g spread l 0 (workOf s₀ [] false)) (sym (list-end dk dx 0 (least 0 mostListed) none-noted)); room = omega arith; kinds = a; keys = b }
+  along-start dk dx =
+      record { out = []; log = refl; whole = ap (λ l. passesOf 3 g spread l 0 (workOf s₀ [] false)) (sym (list-end dk dx 0 (least 0 mostListed) none-noted)); room = omega arith }
 
   module _ (p : ℕ) (dk dx : List ℕ) (dn : ℕ) (s : State) (len : ℕ) (ends : Bool) (ws : List ℕ) (a : Along p dk dx dn s len ends ws) where
     work : Work
@@ -128,7 +126,7 @@ module _ (s₀ : State) (g : Given) (spread : ℤ) (ws₀ : List ℕ) where
       -- one pass more
       pub along-next :
           (n ≡ 0 → ⊥) → (dk′ dx′ : List ℕ) (dn′ : ℕ) (r : Ran) (ws′ : List ℕ) → Extended dk dx dn pk px n dk′ dx′ dn′
-          → (r .state ≡ passOf g spread (listFrom pk px 0 n) (workOf s [] ends) .state) × ((at (r .len) ws′ ≡ logged (at len ws) (passOf g spread (listFrom pk px 0 n) (workOf s [] ends) .out)) × (r .ended ≡ passOf g spread (listFrom pk px 0 n) (workOf s [] ends) .ended))
+          → (r .state ≡ passOf g spread (firstOf pk px n) (workOf s [] ends) .state) × ((at (r .len) ws′ ≡ logged (at len ws) (passOf g spread (firstOf pk px n) (workOf s [] ends) .out)) × (r .ended ≡ passOf g spread (firstOf pk px n) (workOf s [] ends) .ended))
           → Along (p + 1) dk′ dx′ dn′ (r .state) (r .len) (r .ended) ws′
       unfolding after work
       along-next some dk′ dx′ dn′ r ws′ o q =
@@ -142,12 +140,14 @@ module _ (s₀ : State) (g : Given) (spread : ℤ) (ws₀ : List ℕ) where
                 ∙ (ap₂ (λ l m. passesOf (3 - (p + 1)) g spread l m (passOf g spread (passItems (listOf dk dx dn) s (g .now)) (workOf s (a .out) ends))) listed counted
                 ∙ ap (passesOf (3 - (p + 1)) g spread (listOf dk′ dx′ dn′) dn′) left-work)));
             room = let x : dn′ ≡ dn + n = o .count in let y : dn ≤ 40 * p = a .room in let v : n ≤ most = c .room in omega arith;
-            kinds = o .kinds;
-            keys = o .keys;
           }
         where
           w : Work
-          w = passOf g spread (listFrom pk px 0 n) (workOf s [] ends)
+          w = passOf g spread (firstOf pk px n) (workOf s [] ends)
+
+          -- a pass has no more items than the code runs
+          every : firstOf pk px n ≡ listFrom pk px 0 n
+          every = ap (listFrom pk px 0) (least-left {a = n} {b = most} (c .room))
 
           listed : noting (listOf dk dx dn) (passItems (listOf dk dx dn) s (g .now)) ≡ listOf dk′ dx′ dn′
           listed = ap (λ l. listOf dk dx dn ++ l) (ap (map untimed) (sym (c .items)) ∙ untimed-items pa pk px 0 n) ∙ sym (o .list)
@@ -159,5 +159,6 @@ module _ (s₀ : State) (g : Given) (spread : ℤ) (ws₀ : List ℕ) where
           left-work =
               ap (λ l. passOf g spread l (workOf s (a .out) ends)) (sym (c .items))
               ∙ (sym (pass-named g spread pa pk px n (workOf s (a .out) ends))
-              ∙ (pass-after g spread (listFrom pk px 0 n) s (a .out) ends
-              ∙ sym (ap₂ (λ x b. workOf x (a .out ++ w .out) b) (q .0) (q .1 .1))))
+              ∙ (ap (λ l. passOf g spread l (workOf s (a .out) ends)) (sym every)
+              ∙ (pass-after g spread (firstOf pk px n) s (a .out) ends
+              ∙ sym (ap₂ (λ x b. workOf x (a .out ++ w .out) b) (q .0) (q .1 .1)))))

@@ -8,7 +8,7 @@ use lib.IntN.{ℤ}
 use lib.ListN.{length}
 use Rattle.time.specs.Pick.{pick}
 use Rattle.items.specs.Items.{Item, untimed}
-use Rattle.items.specs.Arrays.{mostListed, listOf, listFrom}
+use Rattle.items.specs.Arrays.{listOf, listFrom}
 use Rattle.state.specs.declared.State.{State}
 use Rattle.state.specs.declared.Given.{Given}
 use Rattle.events.specs.Log.{at, logged}
@@ -46,8 +46,6 @@ threePasses s g spread = passesOf 3 g spread [] 0 (workOf s [] false)
 pub record Extended (kind key : List ℕ) (n : ℕ) (pk px : List ℕ) (m : ℕ) (kind′ key′ : List ℕ) (r : ℕ) : Type 0 where
   pub list : listOf kind′ key′ r ≡ listOf kind key n ++ listFrom pk px 0 m
   pub count : r ≡ n + m
-  pub kinds : length kind′ ≡ mostListed
-  pub keys : length key′ ≡ mostListed
 
 -- the state, the log, whether the link ended, and the count
 pub record Leaves (t : Ended) (ws₀ : List ℕ) (s : State) (len : ℕ) (ended : Bool) (count : ℕ) (ws : List ℕ) : Type 0 where

@@ -1,7 +1,6 @@
 // The passes of a poll (machine.rs, the loop of `poll`).
 ghost use mathlib.Core.Path.{_≡_};
 ghost use Prim.Native.Nat.{_≤_, _+_};
-ghost use lib.ListN.{length};
 ghost use Rattle.items.specs.Arrays.{most, mostListed};
 ghost use Rattle.passes.specs.Passes.{threePasses, Extended, Leaves};
 use state::Given;
@@ -25,7 +24,7 @@ fn extend<'a>(
     key: &'a [u64; 40],
     n: usize,
 ) -> usize
-    requires { ⌜ (length (now dk) ≡ mostListed) × ((length (now dx) ≡ mostListed) × ((n ≤ most) × (dn + n ≤ mostListed))) ⌝ }
+    requires { ⌜ (n ≤ most) × (dn + n ≤ mostListed) ⌝ }
     ensures { λ r. ⌜ Extended (now (dk .entry)) (now (dx .entry)) dn (now (kind .entry)) (now (key .entry)) n (now (dk .exit)) (now (dx .exit)) r ⌝ }
 {
     let mut m = dn;

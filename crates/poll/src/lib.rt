@@ -1,7 +1,8 @@
 // The poll (machine.rs, `poll`): refusals 1 to 7, the passes, and what follows them.
 ghost use mathlib.Core.Path.{_≡_};
 ghost use Rattle.poll.specs.Poll.{pollOf};
-ghost use Rattle.poll.specs.Answer.{Answers};
+ghost use Rattle.poll.specs.Answer.{writtenOf, Answers};
+ghost use Rattle.poll.specs.Exact.{PollExact};
 ghost use Rattle.poll.specs.Link.{TwoRuns};
 use settings::Config;
 use state::Given;
@@ -30,9 +31,11 @@ pub fn poll(
     extra: u32,
     log: &mut [u64; 768],
 ) -> Polled
-    ensures poll { λ r. ⌜ Answers (pollOf s cfg p time workers spread extra) r (now (log .entry)) (now (log .exit)) ⌝ }
+    ensures poll { λ r. ⌜ Answers (pollOf s cfg p time workers spread extra) (writtenOf s cfg p time workers spread extra) r (now (log .entry)) (now (log .exit)) ⌝ }
+    ensures exact { λ r. ⌜ PollExact s cfg p spread extra (pollOf s cfg p time workers spread extra) ⌝ }
     ensures runs { λ r. ⌜ TwoRuns ⌝ }
 {
+    let _n = lengths::words(log);
     let back = refusal::before_poll(s, cfg, p, spread, extra);
     if back.number != 0 {
         return Polled {

@@ -3,7 +3,7 @@ use native.Mathlib.Omega.{arith}
 use borrow.Author.Needs.{needs}
 use borrow.Author.Tests.{lt-ltb, le-ltb}
 use Rattle.items.specs.Items.{item}
-use Rattle.items.specs.Arrays.{most}
+use Rattle.items.specs.Arrays.{most, Wide}
 use Rattle.items.specs.Laws.{place-within, inserted}
 use Rattle.items.proofs.insert.Statement.{statement}
 use Rattle.items.proofs.insert.Tie as tie
@@ -15,44 +15,58 @@ returns c =
       count = rw (le-ltb (a .n) most (c .if1 .taken));
       items = rw (le-ltb (a .n) most (c .if1 .taken));
       full = λ _. (refl, refl, refl);
-      wide = c .before .pre;
     }
+
+words-requires : tie.Need-words-requires
+words-requires c κs = tt
+
+words-requires-2 : tie.Need-words-requires-2
+words-requires-2 c κs = tt
+
+words-requires-3 : tie.Need-words-requires-3
+words-requires-3 c κs = tt
 
 place-requires : tie.Need-place-requires
 place-requires c κs = search needs
 
 put-at-requires : tie.Need-put-at-requires
 put-at-requires c κs =
-    let s = c .before .before .before .before .before in
-    (rw (c .before .place .ensures) (place-within _ _ _ _ _), s .if1 .left, s .before .pre .at)
+    let x = c .before .before .before .before .before .before in
+    let k = x .before .before .before in
+    let a = k .before .before .before in
+    (rw (c .before .place .ensures) (place-within _ _ _ _ _), a .before .before .if1 .left, a .words-arg2 .given .0)
 
 put-at-requires-2 : tie.Need-put-at-requires-2
 put-at-requires-2 c κs =
-    let s = c .before .before .before .before .before .before .before in
-    (rw (c .before .before .before .place .ensures) (place-within _ _ _ _ _), s .if1 .left, s .before .pre .kind)
+    let x = c .before .before .before .before .before .before .before .before in
+    let k = x .before .before .before in
+    let a = k .before .before .before in
+    (rw (c .before .before .before .place .ensures) (place-within _ _ _ _ _), a .before .before .if1 .left, k .words-arg4 .given .0)
 
 put-at-requires-3 : tie.Need-put-at-requires-3
 put-at-requires-3 c κs =
-    let s = c .before .before .before .before .before .before .before .before .before in
-    (rw (c .before .before .before .before .before .place .ensures) (place-within _ _ _ _ _), s .if1 .left, s .before .pre .key)
+    let x = c .before .before .before .before .before .before .before .before .before .before in
+    let k = x .before .before .before in
+    let a = k .before .before .before in
+    (rw (c .before .before .before .before .before .place .ensures) (place-within _ _ _ _ _), a .before .before .if1 .left, x .words-arg6 .given .0)
 
 add-result : tie.Need-add-result
 add-result c = search needs
 
 returns-2 : tie.Need-returns-2
 returns-2 c =
-    let s = c .before .before .before .before .before .before .before .before .before .before in
-    let a = s .before .args in
-    let x = item (a .t) (a .k) (a .x) in
-    let i = c .before .before .before .before .before .before .place .result in
-    let p = c .before .before .before .before .put-at .ensures in
-    let q = c .before .before .put-at2 .ensures in
-    let r = c .put-at3 .ensures in
+    let place = c .before .before .before .before .before .before .place in
+    let x = c .before .before .before .before .before .before .before .before .before .before .before in
+    let k = x .before .before .before in
+    let a = k .before .before .before in
+    let s = a .before .before in
+    let v = s .before .args in
+    let h = s .if1 .left in
+    let w : Wide most (v .at .now) (v .kind .now) (v .key .now) = record { at = a .words-arg2 .given .0; kind = k .words-arg4 .given .0; key = x .words-arg6 .given .0 } in
     record {
-      count = rw (lt-ltb (a .n) most (s .if1 .left));
-      items = rw (lt-ltb (a .n) most (s .if1 .left), p .0, q .0, r .0) (inserted (a .at .now) (a .kind .now) (a .key .now) (a .n) i x (s .before .pre) (s .if1 .left) (c .before .before .before .before .before .before .place .ensures));
-      full = λ k. absurd (omega (arith, s .if1 .left));
-      wide = record { at = p .1; kind = q .1; key = r .1 };
+      count = rw (lt-ltb (v .n) most h);
+      items = rw (lt-ltb (v .n) most h, c .before .before .before .before .put-at .ensures, c .before .before .put-at2 .ensures, c .put-at3 .ensures) (inserted (v .at .now) (v .kind .now) (v .key .now) (v .n) (place .result) (item (v .t) (v .k) (v .x)) w h (place .ensures));
+      full = λ m. absurd (omega (arith, h));
     }
 
 pub insert-spec : {M : Type 1} → statement M
@@ -60,6 +74,9 @@ insert-spec =
     tie.close
     (tie.spec
     returns
+    words-requires
+    words-requires-2
+    words-requires-3
     place-requires
     put-at-requires
     put-at-requires-2

@@ -3,7 +3,6 @@ use mathlib.Core.Path.{refl}
 use native.Mathlib.Omega.{arith}
 use borrow.Author.Needs.{needs}
 use borrow.Author.Tests.{lt-ltb, le-ltb}
-use lib.ListN.{length-set}
 use Rattle.items.specs.Items.{item}
 use Rattle.items.specs.Arrays.{mostListed}
 use Rattle.items.specs.Laws.{noted}
@@ -14,7 +13,13 @@ returns : tie.Need-returns
 returns c =
     let a = c .before .args in
     let h : mostListed ≤ a .n = omega arith in
-    record { count = rw (le-ltb (a .n) mostListed h); list = rw (le-ltb (a .n) mostListed h); full = λ _. (refl, refl); wide = c .before .pre }
+    record { count = rw (le-ltb (a .n) mostListed h); list = rw (le-ltb (a .n) mostListed h); full = λ _. (refl, refl) }
+
+words-requires : tie.Need-words-requires
+words-requires c κs = tt
+
+words-requires-2 : tie.Need-words-requires-2
+words-requires-2 c κs = tt
 
 add-next : tie.Need-add-next
 add-next c = search needs
@@ -33,17 +38,18 @@ element-write-key c = search needs
 
 returns-2 : tie.Need-returns-2
 returns-2 c =
-    let a = c .before .args in
-    let p = c .before .pre in
-    let h : a .n < mostListed = omega arith in
+    let x = c .before in
+    let k = x .before .before .before in
+    let s = k .before .before in
+    let a = s .before .args in
+    let h : a .n < mostListed = s .if1 .left in
     record {
       count = rw (lt-ltb (a .n) mostListed h);
-      list = rw (lt-ltb (a .n) mostListed h) (noted (a .kind .now) (a .key .now) (a .n) (item 0 (a .k) (a .x)) (p .0) (p .1) h);
-      full = λ k. absurd (omega arith);
-      wide = (simp length-set (p .0), simp length-set (p .1));
+      list = rw (lt-ltb (a .n) mostListed h) (noted (a .kind .now) (a .key .now) (a .n) (item 0 (a .k) (a .x)) (k .words-arg2 .given .0) (x .words-arg4 .given .0) h);
+      full = λ m. absurd (omega arith);
     }
 
 pub note-spec : {M : Type 1} → statement M
 note-spec =
     tie.close
-    (tie.spec returns add-next mul-kind element-write-kind mul-key element-write-key returns-2)
+    (tie.spec returns words-requires words-requires-2 add-next mul-kind element-write-kind mul-key element-write-key returns-2)

@@ -54,7 +54,7 @@ element-write-a-2 c = search needs
 returns : tie.Need-returns Inv-loop μ-loop
 returns c =
     let l = c .before .loop in
-    (sym (l .inv .3 ∙ opened-done _ _ _ _ (c .loop-test .left) (l .inv .0) (omega (arith, l .inv .0, l .inv .1, l .inv .2))), simp length-set (l .inv .2))
+    sym (l .inv .3 ∙ opened-done _ _ _ _ (c .loop-test .left) (l .inv .0) (omega (arith, l .inv .0, l .inv .1, l .inv .2)))
 
 pub put-at-spec : {M : Type 1} → statement M
 put-at-spec =

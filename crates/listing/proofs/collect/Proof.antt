@@ -9,14 +9,14 @@ held-requires : tie.Need-held-requires
 held-requires c κs = search needs
 
 offer-when-requires : tie.Need-offer-when-requires
-offer-when-requires c κs = (c .before .before .before .before .pre, omega arith)
+offer-when-requires c κs = omega arith
 
 offer-waiting-requires : tie.Need-offer-waiting-requires
 offer-waiting-requires c κs =
     let a = c .before .before .before .before .before .before .offer-when .ensures in
     let h = c .before .before .before .before .before .before .before .before .before .before in
     let m = held-most (h .before .args .t1 .cands .len) .1 in
-    (a .wide, (omega (arith, h .held .ensures, m), omega (arith, a .count, h .held .ensures, m)))
+    (omega (arith, h .held .ensures, m), omega (arith, a .count, h .held .ensures, m))
 
 cycle-two-requires : tie.Need-cycle-two-requires
 cycle-two-requires c κs = search needs
@@ -27,7 +27,7 @@ offer-two-requires c κs =
     let a = w .before .before .before .before .before .before .before in
     let h = a .before .before .before .before in
     let m = held-most (h .before .args .t1 .cands .len) .1 in
-    (w .offer-waiting .ensures .wide, omega (arith, w .offer-waiting .ensures .count, a .offer-when .ensures .count, h .held .ensures, m))
+    omega (arith, w .offer-waiting .ensures .count, a .offer-when .ensures .count, h .held .ensures, m)
 
 current-two-requires : tie.Need-current-two-requires
 current-two-requires c κs = search needs
@@ -39,7 +39,7 @@ offer-two-requires-2 c κs =
     let a = w .before .before .before .before .before .before .before in
     let h = a .before .before .before .before in
     let m = held-most (h .before .args .t1 .cands .len) .1 in
-    (t .offer-two .ensures .wide, omega (arith, t .offer-two .ensures .count, w .offer-waiting .ensures .count, a .offer-when .ensures .count, h .held .ensures, m))
+    omega (arith, t .offer-two .ensures .count, w .offer-waiting .ensures .count, a .offer-when .ensures .count, h .held .ensures, m)
 
 returns : tie.Need-returns
 returns c =

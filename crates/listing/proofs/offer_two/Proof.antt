@@ -6,10 +6,10 @@ use Rattle.listing.proofs.offer_two.Statement.{statement}
 use Rattle.listing.proofs.offer_two.Tie as tie
 
 offer-when-requires : tie.Need-offer-when-requires
-offer-when-requires c κs = (c .before .before .before .pre .0, omega (arith, c .before .before .before .pre .1))
+offer-when-requires c κs = omega (arith, c .before .before .before .pre)
 
 offer-when-requires-2 : tie.Need-offer-when-requires-2
-offer-when-requires-2 c κs = (c .before .before .before .offer-when .ensures .wide, omega (arith, c .before .before .before .offer-when .ensures .count, c .before .before .before .before .before .before .before .pre .1))
+offer-when-requires-2 c κs = omega (arith, c .before .before .before .offer-when .ensures .count, c .before .before .before .before .before .before .before .pre)
 
 returns : tie.Need-returns
 unfolding twoItems

@@ -3,7 +3,7 @@ use Prim.Native.Nat.{_≤_, _+_, _-_}
 use mathlib.Core.Path.{_≡_, refl, sym, _∙_}
 use native.Mathlib.Omega.{arith}
 use Rattle.listing.specs.Laws.{waiting-turn, waiting-done}
-use Rattle.items.specs.Arrays.{most, itemsOf, listOf, Wide}
+use Rattle.items.specs.Arrays.{itemsOf, listOf}
 use Rattle.listing.specs.Listing.{offered, waitingFrom}
 use borrow.Author.Needs.{needs}
 use Rattle.listing.proofs.offer_waiting.Statement.{statement}
@@ -11,13 +11,13 @@ use Rattle.listing.proofs.offer_waiting.Tie as tie
 
 abbrev Inv-loop : tie.InvT-loop
 Inv-loop at₀ kind₀ key₀ n dk dx dn time deadline seq len m₀ i₀ at kind key m i =
-    Wide most at kind key × ((m ≤ n + i) × ((i ≤ len) × (offered (listOf dk dx dn) time (itemsOf at₀ kind₀ key₀ n) (waitingFrom deadline seq 0 len) ≡ offered (listOf dk dx dn) time (itemsOf at kind key m) (waitingFrom deadline seq i len))))
+    (m ≤ n + i) × ((i ≤ len) × (offered (listOf dk dx dn) time (itemsOf at₀ kind₀ key₀ n) (waitingFrom deadline seq 0 len) ≡ offered (listOf dk dx dn) time (itemsOf at kind key m) (waitingFrom deadline seq i len)))
 
 abbrev μ-loop : tie.MeasureT-loop
 μ-loop at₀ kind₀ key₀ n dk dx dn time deadline seq len m₀ i₀ at kind key m i = len - i
 
 loop-holds : tie.Need-loop-holds Inv-loop μ-loop
-loop-holds c = (c .pre .0, (omega arith, (omega arith, refl)))
+loop-holds c = (omega arith, (omega arith, refl))
 
 mul-offer : tie.Need-mul-offer Inv-loop μ-loop
 mul-offer c = search needs
@@ -32,7 +32,7 @@ element-copy-out-offer-2 : tie.Need-element-copy-out-offer-2 Inv-loop μ-loop
 element-copy-out-offer-2 c = search needs
 
 offer-requires : tie.Need-offer-requires Inv-loop μ-loop
-offer-requires c κs = (c .before .before .before .before .before .before .loop .inv .0, omega (arith, c .before .before .before .before .before .before .loop .inv .1 .0, c .before .before .before .before .before .loop-test .taken, c .before .before .before .before .before .before .before .pre .1 .1))
+offer-requires c κs = omega (arith, c .before .before .before .before .before .before .loop .inv .0, c .before .before .before .before .before .loop-test .taken, c .before .before .before .before .before .before .before .pre .1)
 
 add-i : tie.Need-add-i Inv-loop μ-loop
 add-i c = search needs
@@ -43,12 +43,12 @@ loop-less c = omega arith
 loop-again : tie.Need-loop-again Inv-loop μ-loop
 loop-again c =
     let l = c .before .before .before .before .before .before .before .loop in
-    (c .offer .ensures .wide, (omega (arith, c .offer .ensures .count, l .inv .1 .0), (omega (arith, c .before .before .before .before .before .before .loop-test .taken), waiting-turn _ _ _ _ _ _ _ _ _ _ _ (l .inv .1 .1 .1) (c .before .before .before .before .before .before .loop-test .taken) (c .offer .ensures))))
+    (omega (arith, c .offer .ensures .count, l .inv .0), (omega (arith, c .before .before .before .before .before .before .loop-test .taken), waiting-turn _ _ _ _ _ _ _ _ _ _ _ (l .inv .1 .1) (c .before .before .before .before .before .before .loop-test .taken) (c .offer .ensures)))
 
 returns : tie.Need-returns Inv-loop μ-loop
 returns c =
     let l = c .before .loop in
-    record { items = waiting-done _ _ _ _ _ _ _ _ _ _ _ (l .inv .1 .1 .1) (c .loop-test .left); count = omega (arith, l .inv .1 .0, l .inv .1 .1 .0); wide = l .inv .0 }
+    record { items = waiting-done _ _ _ _ _ _ _ _ _ _ _ (l .inv .1 .1) (c .loop-test .left); count = omega (arith, l .inv .0, l .inv .1 .0) }
 
 pub offer-waiting-spec : {M : Type 1} → statement M
 offer-waiting-spec = tie.close (tie.spec Inv-loop μ-loop loop-holds mul-offer element-copy-out-offer mul-offer-2 element-copy-out-offer-2 offer-requires add-i loop-less loop-again returns)

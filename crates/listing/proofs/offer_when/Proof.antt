@@ -10,7 +10,7 @@ returns : tie.Need-returns
 returns c = rw (c .before .before .before .before .if1 .taken) (c .offer .ensures)
 
 returns-2 : tie.Need-returns-2
-returns-2 c = rw (c .if1 .left) (offer-nothing 1 (c .before .pre .0))
+returns-2 c = rw (c .if1 .left) (offer-nothing 1)
 
 pub offer-when-spec : {M : Type 1} → statement M
 offer-when-spec = tie.close (tie.spec offer-requires returns returns-2)

@@ -3,7 +3,6 @@ use Prim.Native.Nat.{_≤_, _<_, _+_, _-_}
 use mathlib.Core.Path.{_≡_, refl, sym, _∙_, ap}
 use mathlib.Core.List.{_++_, append-nil}
 use native.Mathlib.Omega.{arith}
-use lib.ListN.{length}
 use Rattle.items.specs.Arrays.{mostListed, listOf, listFrom}
 use Rattle.pass.specs.Laws.{list-end}
 use Rattle.passes.specs.Laws.{note-turn, note-count}
@@ -13,30 +12,28 @@ use Rattle.passes.proofs.extend.Tie as tie
 
 abbrev Inv-loop : tie.InvT-loop
 Inv-loop dk₀ dx₀ dn kind key n m₀ i₀ dk dx m i =
-    (m ≡ dn + i) × ((i ≤ n) × ((length dk ≡ mostListed) × ((length dx ≡ mostListed) × (listOf dk₀ dx₀ dn ++ listFrom kind key 0 n ≡ listOf dk dx m ++ listFrom kind key i n))))
+    (m ≡ dn + i) × ((i ≤ n) × (listOf dk₀ dx₀ dn ++ listFrom kind key 0 n ≡ listOf dk dx m ++ listFrom kind key i n))
 
 abbrev μ-loop : tie.MeasureT-loop
 μ-loop dk₀ dx₀ dn kind key n m₀ i₀ dk dx m i = n - i
 
 loop-holds : tie.Need-loop-holds Inv-loop μ-loop
-loop-holds c = (omega arith, (omega arith, (c .pre .0, (c .pre .1 .0, refl))))
+loop-holds c = (omega arith, (omega arith, refl))
 
 mul-note : tie.Need-mul-note Inv-loop μ-loop
 mul-note c = search needs
 
 element-copy-out-note : tie.Need-element-copy-out-note Inv-loop μ-loop
-element-copy-out-note c = omega (arith, c .before .before .loop-test .taken, c .before .before .before .before .pre .1 .1 .0)
+element-copy-out-note c = omega (arith, c .before .before .loop-test .taken, c .before .before .before .before .pre .0)
 
 mul-note-2 : tie.Need-mul-note-2 Inv-loop μ-loop
 mul-note-2 c = search needs
 
 element-copy-out-note-2 : tie.Need-element-copy-out-note-2 Inv-loop μ-loop
-element-copy-out-note-2 c = omega (arith, c .before .before .before .loop-test .taken, c .before .before .before .before .before .pre .1 .1 .0)
+element-copy-out-note-2 c = omega (arith, c .before .before .before .loop-test .taken, c .before .before .before .before .before .pre .0)
 
 note-requires : tie.Need-note-requires Inv-loop μ-loop
-note-requires c κs =
-    let v = c .before .before .before .before .before .loop .inv in
-    (v .1 .1 .0, v .1 .1 .1 .0)
+note-requires c κs = tt
 
 add-i : tie.Need-add-i Inv-loop μ-loop
 add-i c = search needs
@@ -48,19 +45,17 @@ loop-again : tie.Need-loop-again Inv-loop μ-loop
 loop-again c =
     let l = c .before .before .before .before .before .before .loop in
     let t = c .before .before .before .before .before .loop-test .taken in
-    let p = c .before .before .before .before .before .before .before .pre .1 .1 in
+    let p = c .before .before .before .before .before .before .before .pre .1 in
     let o = c .note .ensures in
-    let room : l .m < mostListed = omega (arith, l .inv .0, t, p .1) in
-    (omega (arith, l .inv .0, note-count room o), (omega (arith, t), (o .wide .0, (o .wide .1, note-turn _ _ _ _ _ _ _ _ (l .inv .1 .1 .1 .1) t room o))))
+    let room : l .m < mostListed = omega (arith, l .inv .0, t, p) in
+    (omega (arith, l .inv .0, note-count room o), (omega (arith, t), note-turn _ _ _ _ _ _ _ _ (l .inv .1 .1) t room o))
 
 returns : tie.Need-returns Inv-loop μ-loop
 returns c =
     let l = c .before .loop in
     record {
-      list = sym (l .inv .1 .1 .1 .1 ∙ (ap (λ q. listOf (l .dk) (l .dx) (l .m) ++ q) (list-end _ _ _ _ (c .loop-test .left)) ∙ append-nil _));
+      list = sym (l .inv .1 .1 ∙ (ap (λ q. listOf (l .dk) (l .dx) (l .m) ++ q) (list-end _ _ _ _ (c .loop-test .left)) ∙ append-nil _));
       count = omega (arith, l .inv .0, l .inv .1 .0, c .loop-test .left);
-      kinds = l .inv .1 .1 .0;
-      keys = l .inv .1 .1 .1 .0;
     }
 
 pub extend-spec : {M : Type 1} → statement M

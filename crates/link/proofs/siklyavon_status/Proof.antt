@@ -1,0 +1,11 @@
+use Rattle.link.proofs.siklyavon_status.Statement.{statement}
+use Rattle.link.proofs.siklyavon_status.Tie as tie
+
+status-requires : tie.Need-status-requires
+status-requires c κs = tt
+
+returns : tie.Need-returns
+returns c = c .status .ensures
+
+pub siklyavon-status-spec : {M : Type 1} → statement M
+siklyavon-status-spec = tie.close (tie.spec status-requires returns)
