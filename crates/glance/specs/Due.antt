@@ -1,16 +1,19 @@
 -- Whether the least of some instants is reached, part by part.
 use Prim.Native.Nat.{ℕ, _≤_, _<_, _+_}
 use mathlib.Core.Bool.{true, false, _||_}
-use mathlib.Core.Path.{_≡_, _∙_, ap}
+use mathlib.Core.Path.{_≡_, sym, _∙_, ap}
 use mathlib.Core.List.{List, [], _∷_, _++_}
 use lib.Dec.{leb}
 use lib.ListN.{getD}
+use borrow.Author.Tests.{le-leb}
+use Rattle.time.specs.Pick.{pick}
 use Rattle.time.specs.Time.{least, reachedOf}
 use Rattle.ladder.specs.declared.Ladder.{Ladder}
 use Rattle.ladder.specs.Schedule.{Rung}
-use Rattle.ladder.specs.Ladder.{remaining, firstAt, nextAtOf}
+use Rattle.ladder.specs.Ladder.{remaining, firstAt, nextAtOf, instantOf, next-instant}
 use native.Mathlib.Omega.{arith}
 use Rattle.candidates.specs.Held.{heldOf, between, firsts, earliestOf}
+use Rattle.candidates.specs.Repeats.{repeated, rises, rises-once}
 use Rattle.candidates.specs.Places.{between-next, between-end}
 use Rattle.state.specs.Parts.{listed}
 use Rattle.state.specs.declared.State.{State}
@@ -49,9 +52,28 @@ module _ (i n : ℕ) (l : List ℕ) (now : ℕ) (h : i < n) where
 pub past : (i n : ℕ) (l : List ℕ) (now : ℕ) → n ≤ i → reachedOf (earliestOf (between i n l)) now ≡ false
 past i n l now h = ap (λ k. reachedOf (earliestOf k) now) (between-end i n l h) ∙ nothing-due now
 
-pub none-held : (n : ℕ) (l : List ℕ) (now : ℕ) → n ≡ 0 → reachedOf (earliestOf (firsts n l)) now ≡ false
+-- up to 32 are all held
+pub held-all : (n : ℕ) → n ≤ 32 → heldOf n ≡ n
 unfolding heldOf least
-none-held n l now e = ap (λ k. reachedOf (earliestOf (firsts k l)) now) e ∙ past 0 0 l now (omega arith)
+held-all n h = ap (λ b. pick b n 32) (le-leb n 32 h)
+
+pub none-held : (n : ℕ) (l : List ℕ) → n ≡ 0 → firsts n l ≡ []
+none-held n l e =
+    ap (λ k. firsts k l) e ∙ (ap (λ k. between 0 k l) (held-all 0 (omega arith)) ∙ between-end 0 0 l (omega arith))
+
+-- deadlines and numbers of up to 32 candidates
+module _ (n : ℕ) (d q : List ℕ) (now : ℕ) (h : n ≤ 32) where
+  pub found : reachedOf (earliestOf (between 0 n d)) now ≡ true → true ≡ (reachedOf (earliestOf (firsts n d)) now || repeated (firsts n q))
+  found e = rw (held-all n h, e)
+
+  -- numbers that rise hold none twice
+  pub none-found :
+      reachedOf (earliestOf (between 0 n d)) now ≡ false → rises (between 0 n q) ≡ true → false ≡ (reachedOf (earliestOf (firsts n d)) now || repeated (firsts n q))
+  none-found e r = rw (held-all n h, e, rises-once (between 0 n q) r)
+
+-- a ladder's next rung, as the code finds it
+pub rung-due : (l : Ladder) (now : ℕ) → reachedOf (earliestOf (ladderInstants l)) now ≡ reachedOf (instantOf l (l .next)) now
+rung-due l now = ap (λ w. reachedOf w now) (ladder-least l ∙ sym (next-instant l))
 
 -- the four parts
 pub due-parts :

@@ -1,25 +1,54 @@
 -- What the quiet test promises: its answer, and what it says of a poll.
-use Prim.Native.Nat.{ℕ}
-use mathlib.Core.Bool.{Bool, true}
-use mathlib.Core.Path.{_≡_, sym, _∙_}
+use mathlib.Core.Bool.{Bool, true, false, not, _||_}
+use mathlib.Core.Path.{_≡_, sym, _∙_, ap}
 use mathlib.Core.List.{[]}
 use lib.IntN.{ℤ}
 use Rattle.state.specs.declared.State.{State}
 use Rattle.state.specs.declared.Given.{Given}
-use Rattle.wake.specs.Quiet.{quietOf}
-use Rattle.poll.specs.Poll.{Poll, pollOf}
-use Rattle.poll.specs.Laws.{poll-still}
+use Rattle.poll.specs.Poll.{pollOf}
+use Rattle.poll.specs.Runs.{quiet}
+use Rattle.poll.specs.Link.{Call, aPoll, link}
+use Rattle.poll.specs.Woken.{quiet-poll, quiet-still}
+use Rattle.glance.specs.Busy.{firstBusy, otherBusy, aloneOf}
+use Rattle.glance.specs.Still.{still-parts, alone-none}
 
--- where it says quiet, an accepted poll has no event and a count of 0, and gives the state back
-pub record Tells (s : State) (g : Given) (r : Bool) : Type 0 where
-  pub told : r ≡ quietOf s (g .cfg) (g .profile) (g .now) (g .workers)
+-- the poll that is asked about
+abbrev pub polled : Given → ℤ → Call
+polled g spread = aPoll (g .cfg) (g .profile) (g .now) (g .workers) spread (g .extra)
+
+pub record Tells (s : State) (g : Given) (spread : ℤ) (r : Bool) : Type 0 where
+  -- quiet as demand 3 has it: accepted, with none of the four conditions
+  pub told : r ≡ quiet link (polled g spread) s
+  -- such a poll has no event and a count of 0, and gives the state back
   pub still :
-      r ≡ true → (spread : ℤ) (extra : ℕ) → pollOf s (g .cfg) (g .profile) (g .now) (g .workers) spread extra .number ≡ 0
-      → pollOf s (g .cfg) (g .profile) (g .now) (g .workers) spread extra ≡ record { number = 0; place = 0; state = s; out = []; count = 0 }
+      r ≡ true
+      → pollOf s (g .cfg) (g .profile) (g .now) (g .workers) spread (g .extra)
+      ≡ record { number = 0; place = 0; state = s; out = []; count = 0 }
 
-pub tells : (s : State) (g : Given) (r : Bool) → r ≡ quietOf s (g .cfg) (g .profile) (g .now) (g .workers) → Tells s g r
-tells s g r e =
-    record {
-      told = e;
-      still = λ q spread extra z. poll-still s (g .cfg) (g .profile) (g .now) (g .workers) spread extra z (sym e ∙ q);
-    }
+module _ (s : State) (g : Given) (spread : ℤ) (r : Bool) where
+  pub tells : r ≡ quiet link (polled g spread) s → Tells s g spread r
+  tells e =
+      record {
+        told = e;
+        still = λ q. quiet-still s (g .cfg) (g .profile) (g .now) (g .workers) spread (g .extra) (sym e ∙ q);
+      }
+
+  -- the two parts of the test
+  parts : quiet link (polled g spread) s ≡ not (firstBusy s g spread || otherBusy s g)
+  parts = quiet-poll s (g .cfg) (g .profile) (g .now) (g .workers) spread (g .extra) ∙ still-parts s g spread
+
+  -- something in the first part
+  pub tells-busy : firstBusy s g spread ≡ true → r ≡ false → Tells s g spread r
+  tells-busy b e = tells (e ∙ sym (parts ∙ ap (λ x. not (x || otherBusy s g)) b))
+
+  module _ (b : firstBusy s g spread ≡ false) where
+    whole : quiet link (polled g spread) s ≡ not (otherBusy s g)
+    whole = parts ∙ ap (λ x. not (x || otherBusy s g)) b
+
+    -- nothing there, and no second part
+    pub tells-alone : aloneOf s ≡ true → r ≡ true → Tells s g spread r
+    tells-alone a e = tells (e ∙ sym (whole ∙ ap not (alone-none s g a)))
+
+    -- the second part decides
+    pub tells-other : r ≡ not (otherBusy s g) → Tells s g spread r
+    tells-other e = tells (e ∙ sym whole)

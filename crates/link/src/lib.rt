@@ -187,15 +187,24 @@ pub extern "C" fn siklyavon_status(s: State, cfg: Config, p: Profile, time: u64)
     calls::status(s, cfg, p, time)
 }
 
-// Whether a poll of the lent state would have none of the four: an item due, a start called for, a
-// teardown, an offer owed. Where it says so, an accepted poll gives the state back, with no event and
-// count 0. The state is read where it stands: what is copied of it is what the test reads.
+// Whether a poll of the lent state is quiet: accepted, with no item due, no start called for, no
+// teardown standing and no offer owed. Then it would give the state back, with no event and count 0;
+// every other poll is for the log. The state is read where it stands: what is copied of it is what
+// the test reads.
 #[no_mangle]
-pub extern "C" fn siklyavon_quiet(s: &State, g: Given) -> bool
-    ensures { λ r. ⌜ Tells (now (s .entry)) g r ⌝ }
+pub extern "C" fn siklyavon_quiet(s: &State, g: Given, spread: i32) -> bool
+    ensures { λ r. ⌜ Tells (now (s .entry)) g spread r ⌝ }
 {
-    let whole = *s;
-    glance::still(whole, g)
+    let first = *s;
+    if glance::first_busy(first, g, spread) {
+        return false;
+    }
+    let flags = *s;
+    if glance::alone(flags) {
+        return true;
+    }
+    let other = *s;
+    glance::other_still(other, g)
 }
 
 // A sample of the record, for the caller's layout.

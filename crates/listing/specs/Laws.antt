@@ -9,7 +9,7 @@ use borrow.Author.Tests.{le-leb, lt-leb, lt-ltb}
 use lib.Dec.{leb, ltb, eqb}
 use lib.ListN.{length, getD}
 use Rattle.time.specs.Pick.{pick}
-use Rattle.time.specs.Lists.{fold, range, kept, fold-append, range-next, range-end}
+use Rattle.time.specs.Lists.{fold, range, kept, fold-append, range-next, range-end, kept-append}
 use Rattle.candidates.specs.Held.{Candidate, heldOf, heldBy, candAt}
 use Rattle.items.specs.Items.{Item, item, insert, sorted, names, listedIn}
 use Rattle.items.specs.Arrays.{most, itemsFrom, itemsOf, Inserted}
@@ -26,15 +26,6 @@ timeless : (t u k x : ℕ) (l : List Item) → listedIn (item t k x) l ≡ liste
 unfolding listedIn
 timeless t u k x [] = refl
 timeless t u k x (y ∷ l) = ap (λ b. names y (item t k x) || b) (timeless t u k x l)
-
-kept-append : {A : Type 0} (p : A → Bool) (l m : List A) → kept p (l ++ m) ≡ kept p l ++ kept p m
-unfolding kept
-kept-append p [] m = refl
-kept-append p (a ∷ l) m = under (p a) (kept-append p l m)
-  where
-    under : (q : Bool) → kept p (l ++ m) ≡ kept p l ++ kept p m → pick q (a ∷ kept p (l ++ m)) (kept p (l ++ m)) ≡ pick q (a ∷ kept p l) (kept p l) ++ kept p m
-    under true e = ap (λ r. a ∷ r) e
-    under false e = e
 
 module _ (done : List Item) (now : ℕ) where
   offered-append : (have l m : List Item) → offered done now have (l ++ m) ≡ offered done now (offered done now have l) m

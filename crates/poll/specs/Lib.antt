@@ -10,3 +10,4 @@ pub mod Served
 pub mod Others
 pub mod Link
 pub mod Exact
+pub mod Woken

@@ -10,7 +10,7 @@ use borrow.Author.Tests.{eq-eqb}
 use Rattle.time.specs.declared.When.{When}
 use Rattle.time.specs.Pick.{pick, by-test, of-choice}
 use Rattle.time.specs.Time.{at}
-use Rattle.time.specs.Lists.{kept}
+use Rattle.time.specs.Lists.{kept, kept-append}
 use Rattle.epoch.specs.declared.Epoch.{Epoch}
 use Rattle.epoch.specs.declared.Drain.{Drain}
 use Rattle.cycle.specs.declared.Attempt.{Attempt}
@@ -24,15 +24,6 @@ use Rattle.cutover.specs.Cutover.{givenUp, announced}
 use Rattle.deliver.specs.Deliver.{reaches, deliverOut}
 use Rattle.evidence.specs.Evidence.{EpochStep, promptDue, promptedNow}
 use Rattle.frame.specs.Frame.{endedOut}
-
-kept-append : {A : Type 0} (p : A → Bool) (l m : List A) → kept p (l ++ m) ≡ kept p l ++ kept p m
-unfolding kept
-kept-append p [] m = refl
-kept-append p (a ∷ l) m = under (p a) (kept-append p l m)
-  where
-    under : (b : Bool) → kept p (l ++ m) ≡ kept p l ++ kept p m → pick b (a ∷ kept p (l ++ m)) (kept p (l ++ m)) ≡ pick b (a ∷ kept p l) (kept p l) ++ kept p m
-    under true h = rw h
-    under false h = h
 
 -- what is withdrawn is decided by the tags of the current and the pending epoch
 module _ (cur pend : When) where

@@ -56,6 +56,15 @@ unfolding fold
 fold-append f b [] m = refl
 fold-append f b (a ∷ l) m = fold-append f (f b a) l m
 
+pub kept-append : {A : Type 0} (p : A → Bool) (l m : List A) → kept p (l ++ m) ≡ kept p l ++ kept p m
+unfolding kept
+kept-append p [] m = refl
+kept-append p (a ∷ l) m = under (p a) (kept-append p l m)
+  where
+    under : (q : Bool) → kept p (l ++ m) ≡ kept p l ++ kept p m → pick q (a ∷ kept p (l ++ m)) (kept p (l ++ m)) ≡ pick q (a ∷ kept p l) (kept p l) ++ kept p m
+    under true e = ap (λ r. a ∷ r) e
+    under false e = e
+
 pub length-range : (i n : ℕ) → length (range i n) ≡ n
 unfolding range
 length-range i zero = refl

@@ -1,15 +1,37 @@
-use Rattle.glance.specs.Due.{ladder-least}
+use borrow.Author.Needs.{needs}
+use borrow.Author.Tests.{lt-ltb, le-ltb}
+use native.Mathlib.Omega.{arith}
+use Rattle.ladder.specs.Schedule.{maxRungs}
+use Rattle.ladder.specs.Rungs.{held-most}
+use Rattle.ladder.specs.Ladder.{instantOf}
+use Rattle.glance.specs.Due.{rung-due}
 use Rattle.glance.proofs.ladder_due.Statement.{statement}
 use Rattle.glance.proofs.ladder_due.Tie as tie
 
-next-at-requires : tie.Need-next-at-requires
-next-at-requires c κs = tt
+rungs-requires : tie.Need-rungs-requires
+rungs-requires c κs = search needs
 
-reached-requires : tie.Need-reached-requires
-reached-requires c κs = tt
+cast-k : tie.Need-cast-k
+cast-k c = search needs
+
+mul-later : tie.Need-mul-later
+mul-later c = search needs
+
+array-read-later : tie.Need-array-read-later
+array-read-later c = omega (arith, held-most maxRungs (c .before .before .before .before .before .args .l .sched))
+
+later-requires : tie.Need-later-requires
+later-requires c κs = search needs
 
 returns : tie.Need-returns
-returns c = simp (c .reached .ensures, c .before .next-at .ensures .1, ladder-least)
+unfolding instantOf
+returns c = simp (rung-due, c .later .ensures, ← c .before .before .before .before .rungs .ensures, lt-ltb _ _ (c .before .before .if1 .taken))
+
+returns-2 : tie.Need-returns-2
+unfolding instantOf
+returns-2 c = simp (rung-due, ← c .before .before .rungs .ensures, le-ltb _ _ (c .if1 .left))
 
 pub ladder-due-spec : {M : Type 1} → statement M
-ladder-due-spec = tie.close (tie.spec next-at-requires reached-requires returns)
+ladder-due-spec =
+    tie.close
+    (tie.spec rungs-requires cast-k mul-later array-read-later later-requires returns returns-2)
