@@ -48,7 +48,7 @@ on : {a b : Bool} → a ≡ false → b ≡ true → not a && b ≡ true
 on p q = rw (p, q)
 
 module _
-    (settings profile draw many alone tags seqs cycle6 cur6 pend6 drain6 : Bool)
+    (settings profile draw many unled tags seqs cycle6 cur6 pend6 drain6 : Bool)
     (drain waiting cycle cur start teardown offer offer′ : Bool)
   where
     abbrev numbers : Bool
@@ -58,7 +58,7 @@ module _
     ladders = cycle6 || (cur6 || (pend6 || drain6))
 
     abbrev sent : Bool
-    sent = settings || (profile || (many || (alone || (numbers || (ladders || (draw || false))))))
+    sent = settings || (profile || (many || (unled || (numbers || (ladders || (draw || false))))))
 
     abbrev due : Bool
     due = drain || (waiting || (cycle || cur))
@@ -84,7 +84,7 @@ module _
 
     -- as the two parts have them
     abbrev byParts : Bool
-    byParts = not ((asked || (current || held)) || (attempt || (drained || (alone || tags))))
+    byParts = not ((asked || (current || held)) || (attempt || (drained || (unled || tags))))
 
     to : byTests ≡ true → byParts ≡ true
     to h =
@@ -93,10 +93,10 @@ module _
         let c = off start (not teardown && not (offer || offer′)) (b .1) in
         let d = off teardown (not (offer || offer′)) (c .1) in
         let o = not-true (offer || offer′) (d .1) in
-        let a1 = or-right settings (profile || (many || (alone || (numbers || (ladders || (draw || false)))))) (a .0) in
-        let a2 = or-right profile (many || (alone || (numbers || (ladders || (draw || false))))) a1 in
-        let a3 = or-right many (alone || (numbers || (ladders || (draw || false)))) a2 in
-        let a4 = or-right alone (numbers || (ladders || (draw || false))) a3 in
+        let a1 = or-right settings (profile || (many || (unled || (numbers || (ladders || (draw || false)))))) (a .0) in
+        let a2 = or-right profile (many || (unled || (numbers || (ladders || (draw || false))))) a1 in
+        let a3 = or-right many (unled || (numbers || (ladders || (draw || false)))) a2 in
+        let a4 = or-right unled (numbers || (ladders || (draw || false))) a3 in
         let n = or-left numbers (ladders || (draw || false)) a4 in
         let a5 = or-right numbers (ladders || (draw || false)) a4 in
         let l = or-left ladders (draw || false) a5 in
@@ -105,22 +105,22 @@ module _
         let l2 = or-right cur6 (pend6 || drain6) l1 in
         let b1 = or-right drain (waiting || (cycle || cur)) (b .0) in
         let b2 = or-right waiting (cycle || cur) b1 in
-        let no-settings = or-left settings (profile || (many || (alone || (numbers || (ladders || (draw || false)))))) (a .0) in
-        let no-profile = or-left profile (many || (alone || (numbers || (ladders || (draw || false))))) a1 in
-        let no-many = or-left many (alone || (numbers || (ladders || (draw || false)))) a2 in
-        let no-alone = or-left alone (numbers || (ladders || (draw || false))) a3 in
+        let no-settings = or-left settings (profile || (many || (unled || (numbers || (ladders || (draw || false)))))) (a .0) in
+        let no-profile = or-left profile (many || (unled || (numbers || (ladders || (draw || false))))) a1 in
+        let no-many = or-left many (unled || (numbers || (ladders || (draw || false)))) a2 in
+        let no-unled = or-left unled (numbers || (ladders || (draw || false))) a3 in
         let no-asked : asked ≡ false = or-none no-settings (or-none no-profile (or-left draw false a6)) in
         let no-current : current ≡ false = or-none (c .0) (or-none (d .0) (or-none (or-none (or-right cycle cur b2) (or-left cur6 (pend6 || drain6) l1)) (or-left offer offer′ o))) in
         let no-held : held ≡ false = or-none no-many (or-none (or-left waiting (cycle || cur) b1) (or-right tags seqs n)) in
         let no-attempt : attempt ≡ false = or-none (or-left cycle cur b2) (or-none (or-left cycle6 (cur6 || (pend6 || drain6)) l) (or-left pend6 drain6 l2)) in
         let no-drained : drained ≡ false = or-none (or-left drain (waiting || (cycle || cur)) (b .0)) (or-none (or-right offer offer′ o) (or-right pend6 drain6 l2)) in
-        ap not (or-none (or-none no-asked (or-none no-current no-held)) (or-none no-attempt (or-none no-drained (or-none no-alone (or-left tags seqs n)))))
+        ap not (or-none (or-none no-asked (or-none no-current no-held)) (or-none no-attempt (or-none no-drained (or-none no-unled (or-left tags seqs n)))))
 
     from : byParts ≡ true → byTests ≡ true
     from h =
-        let z = not-true ((asked || (current || held)) || (attempt || (drained || (alone || tags)))) h in
-        let f = or-left (asked || (current || held)) (attempt || (drained || (alone || tags))) z in
-        let g = or-right (asked || (current || held)) (attempt || (drained || (alone || tags))) z in
+        let z = not-true ((asked || (current || held)) || (attempt || (drained || (unled || tags)))) h in
+        let f = or-left (asked || (current || held)) (attempt || (drained || (unled || tags))) z in
+        let g = or-right (asked || (current || held)) (attempt || (drained || (unled || tags))) z in
         let f1 = or-left asked (current || held) f in
         let f2 = or-right settings (profile || draw) f1 in
         let f3 = or-right asked (current || held) f in
@@ -130,15 +130,15 @@ module _
         let u3 = or-left (cur || cur6) offer u2 in
         let w = or-right current held f3 in
         let w1 = or-right many (waiting || seqs) w in
-        let y = or-left attempt (drained || (alone || tags)) g in
+        let y = or-left attempt (drained || (unled || tags)) g in
         let y1 = or-right cycle (cycle6 || pend6) y in
-        let v = or-right attempt (drained || (alone || tags)) g in
-        let d = or-left drained (alone || tags) v in
+        let v = or-right attempt (drained || (unled || tags)) g in
+        let d = or-left drained (unled || tags) v in
         let d1 = or-right drain (offer′ || drain6) d in
-        let e = or-right drained (alone || tags) v in
-        let no-numbers : numbers ≡ false = or-none (or-right alone tags e) (or-right waiting seqs w1) in
+        let e = or-right drained (unled || tags) v in
+        let no-numbers : numbers ≡ false = or-none (or-right unled tags e) (or-right waiting seqs w1) in
         let no-ladders : ladders ≡ false = or-none (or-left cycle6 pend6 y1) (or-none (or-right cur cur6 u3) (or-none (or-right cycle6 pend6 y1) (or-right offer′ drain6 d1))) in
-        let no-sent : sent ≡ false = or-none (or-left settings (profile || draw) f1) (or-none (or-left profile draw f2) (or-none (or-left many (waiting || seqs) w) (or-none (or-left alone tags e) (or-none no-numbers (or-none no-ladders (or-none (or-right profile draw f2) refl)))))) in
+        let no-sent : sent ≡ false = or-none (or-left settings (profile || draw) f1) (or-none (or-left profile draw f2) (or-none (or-left many (waiting || seqs) w) (or-none (or-left unled tags e) (or-none no-numbers (or-none no-ladders (or-none (or-right profile draw f2) refl)))))) in
         let no-due : due ≡ false = or-none (or-left drain (offer′ || drain6) d) (or-none (or-left waiting seqs w1) (or-none (or-left cycle (cycle6 || pend6) y) (or-left cur cur6 u3))) in
         on no-sent (on no-due (on (or-left start (teardown || ((cur || cur6) || offer)) u) (on (or-left teardown ((cur || cur6) || offer) u1) (ap not (or-none (or-right (cur || cur6) offer u2) (or-left offer′ drain6 d1))))))
 

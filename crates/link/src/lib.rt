@@ -17,6 +17,7 @@ ghost use Rattle.reply.specs.Exact.{ReplyExact};
 ghost use Rattle.poll.specs.Poll.{pollOf};
 ghost use Rattle.poll.specs.Answer.{writtenOf, Answers};
 ghost use Rattle.poll.specs.Exact.{PollExact};
+ghost use Rattle.poll.specs.Acts.{PollActs};
 ghost use Rattle.poll.specs.Link.{TwoRuns};
 ghost use Rattle.link.specs.Quiet.{Tells};
 use calls::Counted;
@@ -101,6 +102,7 @@ pub extern "C" fn siklyavon_poll(
 ) -> Polled
     ensures poll { λ r. ⌜ Answers (pollOf s cfg p time workers spread extra) (writtenOf s cfg p time workers spread extra) r (now (log .entry)) (now (log .exit)) ⌝ }
     ensures exact { λ r. ⌜ PollExact s cfg p spread extra (pollOf s cfg p time workers spread extra) ⌝ }
+    ensures acts { λ r. ⌜ PollActs s cfg p time workers (pollOf s cfg p time workers spread extra) ⌝ }
     ensures runs { λ r. ⌜ TwoRuns ⌝ }
 {
     poll::poll(s, cfg, p, time, workers, spread, extra, log)

@@ -10,4 +10,5 @@ pub mod Served
 pub mod Others
 pub mod Link
 pub mod Exact
+pub mod Acts
 pub mod Woken

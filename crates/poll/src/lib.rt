@@ -3,6 +3,7 @@ ghost use mathlib.Core.Path.{_≡_};
 ghost use Rattle.poll.specs.Poll.{pollOf};
 ghost use Rattle.poll.specs.Answer.{writtenOf, Answers};
 ghost use Rattle.poll.specs.Exact.{PollExact};
+ghost use Rattle.poll.specs.Acts.{PollActs};
 ghost use Rattle.poll.specs.Link.{TwoRuns};
 use settings::Config;
 use state::Given;
@@ -33,6 +34,7 @@ pub fn poll(
 ) -> Polled
     ensures poll { λ r. ⌜ Answers (pollOf s cfg p time workers spread extra) (writtenOf s cfg p time workers spread extra) r (now (log .entry)) (now (log .exit)) ⌝ }
     ensures exact { λ r. ⌜ PollExact s cfg p spread extra (pollOf s cfg p time workers spread extra) ⌝ }
+    ensures acts { λ r. ⌜ PollActs s cfg p time workers (pollOf s cfg p time workers spread extra) ⌝ }
     ensures runs { λ r. ⌜ TwoRuns ⌝ }
 {
     let _n = lengths::words(log);

@@ -1,0 +1,89 @@
+-- Whether an item of a kind and a key is due, part by part of the state: the same as that `due` names one.
+use Prim.Native.Nat.{ℕ, _≤_, _<_}
+use mathlib.Core.Bool.{Bool, true, false, not, _&&_, true≢false, false≢true}
+use mathlib.Core.Logic.{_⊎_, inl, inr, ⊎-elim}
+use mathlib.Core.Path.{_≡_, refl, sym, _∙_, ap}
+use mathlib.Core.List.{List, [], _∷_, _++_, map}
+use native.Mathlib.Omega.{arith}
+use borrow.Author.Tests.{leb-true, le-leb, eqb-true, eq-eqb, ne-eqb}
+use lib.Dec.{leb, ltb, eqb}
+use Rattle.time.specs.declared.When.{When}
+use Rattle.time.specs.Pick.{pick}
+use Rattle.time.specs.Lists.{kept}
+use Rattle.time.specs.Time.{reachedOf}
+use Rattle.ladder.specs.declared.Ladder.{Ladder}
+use Rattle.ladder.specs.Ladder.{nextAtOf}
+use Rattle.epoch.specs.declared.MayEpoch.{MayEpoch}
+use Rattle.epoch.specs.declared.Drain.{Drain}
+use Rattle.cycle.specs.declared.Cycle.{Cycle}
+use Rattle.cycle.specs.Kind.{isInit, isPendI, isPendR, waitsHeld, waitsEvidence, waitsDelay}
+use Rattle.candidates.specs.declared.Candidates.{Candidates}
+use Rattle.candidates.specs.Held.{Candidate, heldBy}
+use Rattle.state.specs.declared.State.{State}
+use Rattle.wake.specs.Kinds.{dueDrain, dueCandidate, dueUnadopted, dueHeld, dueProbe, dueDelayed, dueFin, dueElicit, dueConfirm, dueDelayEnd, dueResend, dueExpire}
+use Rattle.refusal.specs.Refusal.{anyOf}
+
+module _ (now : ℕ) where
+  -- a rung of a ladder is due
+  abbrev pub ready : Ladder → Bool
+  ready l = reachedOf (nextAtOf l) now
+
+  abbrev pub drainAt : Drain → ℕ → Bool
+  drainAt d x = d .some && (leb (d .deadline) now && eqb (d .ep .tag) x)
+
+  abbrev pub waiting : ℕ → Candidate → Bool
+  waiting x c = eqb (c .seq) x && leb (c .deadline) now
+
+  abbrev pub candsAt : Candidates → ℕ → Bool
+  candsAt v x = anyOf (waiting x) (heldBy v)
+
+  abbrev pub finAt : MayEpoch → ℕ → Bool
+  finAt e x = e .some && (e .ep .fin .some && (ready (e .ep .fin .ladder) && eqb (e .ep .tag) x))
+
+  abbrev pub elicitAt : MayEpoch → ℕ → Bool
+  elicitAt e x = e .some && (not (e .ep .moved .some) && (e .ep .elicit .some && (ready (e .ep .elicit .ladder) && eqb (e .ep .tag) x)))
+
+  abbrev pub unadoptedAt : Cycle → ℕ → Bool
+  unadoptedAt c x = isPendR (c .kind) && (leb (c .pendr .deadline) now && eqb (c .pendr .ep .tag) x)
+
+  abbrev pub heldAt : Cycle → ℕ → Bool
+  heldAt c x = isPendI (c .kind) && (waitsHeld (c .pendi .wait) && (leb (c .pendi .deadline) now && eqb (c .pendi .ep .tag) x))
+
+  abbrev pub probeAt : Cycle → ℕ → Bool
+  probeAt c x = isPendI (c .kind) && (waitsEvidence (c .pendi .wait) && (c .pendi .probes .some && (ready (c .pendi .probes .ladder) && eqb (c .pendi .ep .tag) x)))
+
+  abbrev pub delayedAt : Cycle → ℕ → Bool
+  delayedAt c x = isPendI (c .kind) && (waitsDelay (c .pendi .wait) && (c .pendi .fin .some && (ready (c .pendi .fin .ladder) && eqb (c .pendi .ep .tag) x)))
+
+  abbrev pub confirmAt : Cycle → ℕ → Bool
+  confirmAt c x = isPendI (c .kind) && (waitsEvidence (c .pendi .wait) && (leb (c .pendi .deadline) now && eqb (c .pendi .ep .tag) x))
+
+  abbrev pub delayEndAt : Cycle → ℕ → Bool
+  delayEndAt c x = isPendI (c .kind) && (waitsDelay (c .pendi .wait) && (leb (c .pendi .deadline) now && eqb (c .pendi .ep .tag) x))
+
+  -- a resend whose attempt has reached its deadline is not sent: the attempt expires
+  abbrev pub resendAt : Cycle → ℕ → Bool
+  resendAt c x = isInit (c .kind) && (ltb now (c .init .deadline) && (ready (c .init .ladder) && eqb x 0))
+
+  abbrev pub expireAt : Cycle → ℕ → Bool
+  expireAt c x = isInit (c .kind) && (leb (c .init .deadline) now && eqb x 0)
+
+  abbrev pub cycleAt : Cycle → ℕ → ℕ → Bool
+  cycleAt c k x =
+      pick (eqb k dueUnadopted) (unadoptedAt c x)
+      (pick (eqb k dueHeld) (heldAt c x)
+      (pick (eqb k dueProbe) (probeAt c x)
+      (pick (eqb k dueDelayed) (delayedAt c x)
+      (pick (eqb k dueConfirm) (confirmAt c x)
+      (pick (eqb k dueDelayEnd) (delayEndAt c x)
+      (pick (eqb k dueResend) (resendAt c x)
+      (pick (eqb k dueExpire) (expireAt c x) false)))))))
+
+  -- an item of that kind and key is due
+  unfoldable pub dueAt : State → ℕ → ℕ → Bool
+  dueAt s k x =
+      pick (eqb k dueDrain) (drainAt (s .drain) x)
+      (pick (eqb k dueCandidate) (candsAt (s .cands) x)
+      (pick (eqb k dueFin) (finAt (s .cur) x)
+      (pick (eqb k dueElicit) (elicitAt (s .cur) x)
+      (cycleAt (s .cycle) k x))))
