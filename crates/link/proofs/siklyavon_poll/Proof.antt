@@ -9,7 +9,7 @@ poll-requires : tie.Need-poll-requires
 poll-requires c κs = tt
 
 returns : tie.Need-returns
-returns c = (simp (toZ-ofZ (c .before .before .fits .spread)) at (c .poll .ensures .0), poll-exact _ _ _ _ _ _ _, poll-acts _ _ _ _ _ _ _, two-runs)
+returns c = (simp (toZ-ofZ (c .before .before .fits .spread)) at (c .poll .ensures .0), (poll-exact _ _ _ _ _ _ _, (poll-acts _ _ _ _ _ _ _, two-runs)))
 
 pub siklyavon-poll-spec : {M : Type 1} → statement M
 siklyavon-poll-spec = tie.close (tie.spec poll-requires returns)

@@ -6,7 +6,7 @@ reply-requires : tie.Need-reply-requires
 reply-requires c κs = tt
 
 returns : tie.Need-returns
-returns c = (c .reply .ensures .0, c .reply .ensures .1, two-runs)
+returns c = (c .reply .ensures .0, (c .reply .ensures .1, two-runs))
 
 pub siklyavon-reply-spec : {M : Type 1} → statement M
 siklyavon-reply-spec = tie.close (tie.spec reply-requires returns)

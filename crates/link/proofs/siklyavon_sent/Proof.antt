@@ -6,7 +6,7 @@ told-requires : tie.Need-told-requires
 told-requires c κs = tt
 
 returns : tie.Need-returns
-returns c = (c .told .ensures .0, c .told .ensures .1, two-runs)
+returns c = (c .told .ensures .0, (c .told .ensures .1, two-runs))
 
 pub siklyavon-sent-spec : {M : Type 1} → statement M
 siklyavon-sent-spec = tie.close (tie.spec told-requires returns)

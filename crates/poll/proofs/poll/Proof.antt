@@ -14,7 +14,7 @@ before-poll-requires : tie.Need-before-poll-requires
 before-poll-requires c κs = tt
 
 returns : tie.Need-returns
-returns c = (answers-back _ _ _ _ _ _ _ _ (toZ-ofZ (c .before .before .before .before .before .before .fits .spread)) _ (c .before .before .before-poll .ensures) (c .if1 .taken) _, poll-exact _ _ _ _ _ _ _, poll-acts _ _ _ _ _ _ _, two-runs)
+returns c = (answers-back _ _ _ _ _ _ _ _ (toZ-ofZ (c .before .before .before .before .before .before .fits .spread)) _ (c .before .before .before-poll .ensures) (c .if1 .taken) _, (poll-exact _ _ _ _ _ _ _, (poll-acts _ _ _ _ _ _ _, two-runs)))
 
 passes-requires : tie.Need-passes-requires
 passes-requires c κs = tt
@@ -27,7 +27,7 @@ returns-2 c =
     let st = c .before .before .before .before .before .before .before .before .before .before .before in
     let r = c .before .before .before .before .before .before .before .before-poll in
     let w = c .before .before .before .before .before .before .before .before .before in
-    (answers-on _ _ _ _ _ _ _ _ (toZ-ofZ (st .fits .spread)) _ (r .ensures) (c .before .before .before .before .before .if1 .left) _ _ _ _ (st .args .log .now) _ _ _ (w .words-arg2 .given .0) (c .before .before .before .passes .ensures) (c .close .ensures), poll-exact _ _ _ _ _ _ _, poll-acts _ _ _ _ _ _ _, two-runs)
+    (answers-on _ _ _ _ _ _ _ _ (toZ-ofZ (st .fits .spread)) _ (r .ensures) (c .before .before .before .before .before .if1 .left) _ _ _ _ (st .args .log .now) _ _ _ (w .words-arg2 .given .0) (c .before .before .before .passes .ensures) (c .close .ensures), (poll-exact _ _ _ _ _ _ _, (poll-acts _ _ _ _ _ _ _, two-runs)))
 
 pub poll-spec : {M : Type 1} → statement M
 poll-spec = tie.close (tie.spec words-requires before-poll-requires returns passes-requires close-requires returns-2)
