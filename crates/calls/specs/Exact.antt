@@ -8,7 +8,6 @@ use mathlib.Core.Path.{_≡_, refl, sym, _∙_, ap}
 use mathlib.Core.List.{List, [], _∷_}
 use native.Mathlib.Omega.{arith}
 use borrow.Author.Tests.{eq-eqb, ne-eqb}
-use lib.Dec.{eqb}
 use lib.IntN.{ℤ}
 use Rattle.time.specs.Pick.{pick}
 use Rattle.time.specs.Time.{none}

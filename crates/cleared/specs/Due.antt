@@ -1,15 +1,8 @@
 -- Whether an item of a kind and a key is due, part by part of the state: the same as that `due` names one.
-use Prim.Native.Nat.{ℕ, _≤_, _<_}
-use mathlib.Core.Bool.{Bool, true, false, not, _&&_, true≢false, false≢true}
-use mathlib.Core.Logic.{_⊎_, inl, inr, ⊎-elim}
-use mathlib.Core.Path.{_≡_, refl, sym, _∙_, ap}
-use mathlib.Core.List.{List, [], _∷_, _++_, map}
-use native.Mathlib.Omega.{arith}
-use borrow.Author.Tests.{leb-true, le-leb, eqb-true, eq-eqb, ne-eqb}
+use Prim.Native.Nat.{ℕ}
+use mathlib.Core.Bool.{Bool, false, not, _&&_}
 use lib.Dec.{leb, ltb, eqb}
-use Rattle.time.specs.declared.When.{When}
 use Rattle.time.specs.Pick.{pick}
-use Rattle.time.specs.Lists.{kept}
 use Rattle.time.specs.Time.{reachedOf}
 use Rattle.ladder.specs.declared.Ladder.{Ladder}
 use Rattle.ladder.specs.Ladder.{nextAtOf}

@@ -5,12 +5,11 @@ use mathlib.Core.Path.{_≡_, refl, sym, _∙_, ap}
 use mathlib.Core.List.{List, [], _∷_}
 use native.Mathlib.Nat.{zero-add}
 use native.Mathlib.Omega.{arith}
-use lib.Dec.{leb}
 use lib.ListN.{length, drop}
 use lib.Seq.{drop-nil}
 use Rattle.time.specs.Pick.{pick}
 use Rattle.time.specs.Lists.{fold, takeWhile}
-use Rattle.time.specs.Time.{laterOf, reachedOf}
+use Rattle.time.specs.Time.{reachedOf}
 use Rattle.ladder.specs.declared.Ladder.{Ladder}
 use Rattle.ladder.specs.declared.Taking.{Taking}
 use Rattle.ladder.specs.Schedule.{Rung, maxRungs, rungsOf}

@@ -53,10 +53,6 @@ module _ {A : Type 0} (P : A → Type 0) where
   some-right [] m h = h
   some-right (a ∷ l) m h = inr (some-right l m h)
 
-  pub some-listed : (b : Bool) (a : A) → b ≡ true → P a → Some P (listed b a)
-  some-listed true a e p = inl p
-  some-listed false a e p = absurd (false≢true e)
-
   pub some-kept : (t : A → Bool) → ((a : A) → P a → t a ≡ true) → (l : List A) → Some P l → Some P (kept t l)
   unfolding kept
   some-kept t f [] h = absurd h

@@ -5,7 +5,7 @@ use mathlib.Core.Logic.{_⊎_, inl, inr, ⊎-elim}
 use mathlib.Core.Path.{_≡_, refl, sym, _∙_, ap, subst}
 use mathlib.Core.List.{List, [], _∷_}
 use native.Mathlib.Omega.{arith}
-use borrow.Author.Tests.{leb-true, leb-false, lt-ltb, le-ltb, ltb-true, ltb-false, eqb-true, eqb-false, eq-eqb, ne-eqb}
+use borrow.Author.Tests.{ltb-true, ltb-false, eqb-true, eqb-false, eq-eqb, ne-eqb}
 use lib.Dec.{leb, ltb, eqb}
 use lib.IntN.{ℤ}
 use Rattle.time.specs.declared.When.{When}
@@ -15,8 +15,7 @@ use Rattle.ladder.specs.declared.Ladder.{Ladder}
 use Rattle.ladder.specs.Ladder.{takeOf}
 use Rattle.settings.specs.declared.Config.{Config}
 use Rattle.epoch.specs.declared.MayEpoch.{MayEpoch}
-use Rattle.epoch.specs.declared.Drain.{Drain}
-use Rattle.epoch.specs.Put.{putFin, putElicit, putAssumed, movedFin, putEp}
+use Rattle.epoch.specs.Put.{putFin, putElicit, movedFin, putEp}
 use Rattle.cycle.specs.declared.Cycle.{Cycle}
 use Rattle.cycle.specs.Put.{putInit, putPendI, movedInit, withFin, withProbes}
 use Rattle.cycle.specs.Kind.{isInit, isPendI, isPendR, idled, waitsHeld, waitsEvidence, waitsDelay}
@@ -32,9 +31,9 @@ use Rattle.refusal.specs.Refusal.{anyOf}
 use Rattle.refusal.specs.First.{or-left, or-right, or-none}
 use Rattle.refusal.specs.Sound.{Sound}
 use Rattle.wake.specs.Kinds.{dueDrain, dueCandidate, dueUnadopted, dueHeld, dueProbe, dueDelayed, dueFin, dueElicit, dueConfirm, dueDelayEnd, dueResend, dueExpire}
-use Rattle.rows.specs.Rows.{and, isTag, isOwn, isPeers, grace, lateFor, drainDue, unadoptedDue, probing, probeDue, delayedDue, finTaken, finDue, elicitTaken, elicitDue, resendTaken, resendDue, abandonedMem, expireDue, and-left, and-right}
+use Rattle.rows.specs.Rows.{and, isTag, isOwn, isPeers, grace, lateFor, drainDue, unadoptedDue, probing, probeDue, delayedDue, finTaken, finDue, elicitTaken, elicitDue, resendTaken, resendDue, abandonedMem, expireDue, and-left}
 use Rattle.cutover.specs.Cutover.{prunes, pruned, demoted, adopted, keptFin, cutoverOf}
-use Rattle.turn.specs.Turn.{Step, stay, onDrain, onCycle, dueMem, onCur, onFail, candidateDue, pendOf, cutBy, heldDue, delayEnd, unconfirmed, assumed, confirmDue, holds, alone, lowStep, highStep, otherStep, itemStep}
+use Rattle.turn.specs.Turn.{Step, stay, onDrain, onCycle, dueMem, onCur, onFail, candidateDue, cutBy, heldDue, delayEnd, unconfirmed, assumed, confirmDue, holds, alone, lowStep, highStep, otherStep, itemStep}
 use Rattle.cleared.specs.Ladders.{take-past, take-any}
 use Rattle.cleared.specs.Due.{ready, drainAt, waiting, candsAt, finAt, elicitAt, unadoptedAt, heldAt, probeAt, delayedAt, confirmAt, delayEndAt, resendAt, expireAt, cycleAt, dueAt}
 use Rattle.cleared.specs.Named.{left, right}

@@ -1,19 +1,18 @@
 -- `due` names an item of a kind and a key, reached at now, exactly where one is due by the parts.
 use Prim.Native.Nat.{ℕ}
-use mathlib.Core.Bool.{Bool, true, false, not, _&&_, _||_, true≢false, false≢true}
+use mathlib.Core.Bool.{Bool, true, false, not, _&&_, _||_, false≢true}
 use mathlib.Core.Logic.{_⊎_, inl, inr, ⊎-elim}
 use mathlib.Core.Path.{_≡_, refl, sym, _∙_, ap}
-use mathlib.Core.List.{List, [], _∷_, _++_, map}
+use mathlib.Core.List.{List, [], _∷_, _++_}
 use native.Mathlib.Omega.{arith}
 use borrow.Author.Tests.{leb-false, lt-ltb, not-true, eqb-true, eq-eqb}
 use lib.Dec.{leb, ltb, eqb}
 use Rattle.time.specs.declared.When.{When}
 use Rattle.time.specs.Pick.{pick}
 use Rattle.time.specs.Lists.{kept}
-use Rattle.time.specs.Time.{reachedOf, decide}
+use Rattle.time.specs.Time.{reachedOf}
 use Rattle.ladder.specs.declared.Ladder.{Ladder}
 use Rattle.ladder.specs.Ladder.{nextAtOf}
-use Rattle.epoch.specs.declared.MayEpoch.{MayEpoch}
 use Rattle.cycle.specs.declared.PendI.{PendI}
 use Rattle.cycle.specs.declared.Cycle.{Cycle}
 use Rattle.cycle.specs.Kind.{isInit, isPendI, isPendR, waitsHeld, waitsEvidence, waitsDelay}
@@ -28,8 +27,8 @@ use Rattle.wake.specs.Kinds.{dueDrain, dueCandidate, dueUnadopted, dueHeld, due
 use Rattle.wake.specs.Due.{ladderInstants, mayInstants, finInstants, elicitInstants, itemsAt, drainItems, candidateItems, pendingItems, cycleItems, currentItems, named, isDue, dueItems, someIn, anyDue}
 use Rattle.listing.specs.Listing.{unlisted, fresh, passItems}
 use Rattle.exact.specs.Reads.{Each, Some}
-use Rattle.cleared.specs.Lists.{each-append, each-listed, each-pick, each-kept, each-tested, each-sorted, some-left, some-right, some-listed, each-of, some-of}
-use Rattle.cleared.specs.Due.{ready, drainAt, waiting, candsAt, finAt, elicitAt, unadoptedAt, heldAt, probeAt, delayedAt, confirmAt, delayEndAt, resendAt, expireAt, cycleAt, dueAt}
+use Rattle.cleared.specs.Lists.{each-append, each-listed, each-pick, each-kept, each-tested, each-sorted, some-left, some-right, each-of, some-of}
+use Rattle.cleared.specs.Due.{ready, drainAt, waiting, candsAt, finAt, elicitAt, unadoptedAt, heldAt, probeAt, delayedAt, confirmAt, delayEndAt, resendAt, expireAt, dueAt}
 
 -- ---- tests
 

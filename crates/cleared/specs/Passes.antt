@@ -1,36 +1,35 @@
 -- After the passes of a poll no item is due at its instant.
-use Prim.Native.Nat.{ℕ, zero, suc, _≤_, _<_, _+_}
-use mathlib.Core.Bool.{Bool, true, false, not, _||_, true≢false, false≢true}
+use Prim.Native.Nat.{ℕ, zero, suc, _+_}
+use mathlib.Core.Bool.{Bool, true, false, not, true≢false, false≢true}
 use mathlib.Core.Logic.{_⊎_, inl, inr, ⊎-elim}
 use mathlib.Core.Path.{_≡_, refl, sym, _∙_, ap, ap₂, subst}
-use mathlib.Core.List.{List, [], _∷_, _++_, map}
+use mathlib.Core.List.{List, [], _∷_}
 use native.Mathlib.Omega.{arith}
-use borrow.Author.Tests.{eqb-true, eqb-false, eq-eqb, ne-eqb}
-use lib.Dec.{leb, ltb, eqb}
+use borrow.Author.Tests.{eqb-true, eqb-false}
+use lib.Dec.{leb, eqb}
 use lib.IntN.{ℤ}
 use lib.ListN.{length}
 use Rattle.time.specs.Pick.{pick, by-test}
 use Rattle.time.specs.Lists.{fold, kept}
-use Rattle.cycle.specs.Kind.{isInit, isPendI, isPendR, waitsHeld, waitsEvidence}
-use Rattle.candidates.specs.Held.{Candidate, heldBy}
-use Rattle.items.specs.Items.{Item, item, listedIn, untimed, names}
+use Rattle.cycle.specs.Kind.{isInit, isPendI}
+use Rattle.items.specs.Items.{Item, item, listedIn}
 use Rattle.items.specs.Sorted.{listed-untimed}
 use Rattle.state.specs.declared.State.{State}
 use Rattle.state.specs.declared.Given.{Given}
 use Rattle.refusal.specs.Standing.{other-kind}
 use Rattle.refusal.specs.Sound.{Sound}
-use Rattle.wake.specs.Kinds.{dueDrain, dueCandidate, dueUnadopted, dueHeld, dueProbe, dueDelayed, dueFin, dueElicit, dueConfirm, dueDelayEnd, dueResend, dueExpire}
-use Rattle.wake.specs.Due.{ladderInstants, mayInstants, finInstants, itemsAt, drainItems, candidateItems, pendingItems, cycleItems, currentItems, named, isDue, dueItems, someIn, anyDue}
-use Rattle.turn.specs.Turn.{Step, itemStep}
+use Rattle.wake.specs.Kinds.{dueDrain, dueFin, dueElicit, dueResend, dueExpire}
+use Rattle.wake.specs.Due.{named, isDue, dueItems, anyDue}
+use Rattle.turn.specs.Turn.{itemStep}
 use Rattle.listing.specs.Listing.{unlisted, fresh, passItems}
-use Rattle.pass.specs.Pass.{Work, workOf, did, runItem, passOf}
+use Rattle.pass.specs.Pass.{Work, workOf, runItem, passOf}
 use Rattle.passes.specs.Passes.{Ended, ended, noting, passesOf, threePasses}
 use Rattle.sound.specs.Items.{item-sound}
-use Rattle.exact.specs.Reads.{Each, Some}
+use Rattle.exact.specs.Reads.{Each}
 use Rattle.cleared.specs.Lists.{Named, each-map, some-kept, some-sorted, some-map, some-each, listed-same, listed-named}
 use Rattle.cleared.specs.Due.{ready, drainAt, finAt, elicitAt, dueAt}
 use Rattle.cleared.specs.Named.{Told, Reached, left, right, due-named, none-due, listed-told}
-use Rattle.cleared.specs.Moves.{refute, Cuts, Moves, item-moves, ends-init}
+use Rattle.cleared.specs.Moves.{refute, Cuts, item-moves, ends-init}
 
 -- ---- what a pass lists
 

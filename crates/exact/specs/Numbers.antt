@@ -19,22 +19,22 @@ use Rattle.refusal.specs.declared.Refused.{Refused}
 use Rattle.refusal.specs.Refusal.{anyOf, profileBad, candsBad, epochsBad, numbersBad, laddersBad, Test, accepted, first, numbered, by, bySettings, givenTests, stateTests, replyTests, stateBack}
 use Rattle.refusal.specs.First.{or-left, or-right, rising, first-append}
 use Rattle.refusal.specs.Sound.{Sound, sound, sounding}
-use Rattle.exact.specs.Reads.{Reads, Each, Some}
-use Rattle.exact.specs.Words.{SettingsFail, FailsAt, fails-at, ProfileOut, ProfileOk, GivenOk, Many, Few, Unled, Led, Shared, Different, Stray, Fit, StateOk, reads-settings, reads-profile, reads-many, reads-unled, reads-shared, reads-ladders}
+use Rattle.exact.specs.Reads.{Reads, Some}
+use Rattle.exact.specs.Words.{SettingsFail, FailsAt, fails-at, ProfileOut, GivenOk, TooMany, CountOk, WithoutCurrent, WithCurrent, Shared, Different, LadderOut, StateOk, reads-settings, reads-profile, reads-many, reads-current, reads-shared, reads-ladders}
 
 -- ---- what the numbers of a call say
 
--- 1 and 2
+-- 1 and 2: each exactly where its sentence holds and no earlier one does
 pub record GivenNumbers (n : ℕ) (cfg : Config) (p : Profile) : Type 0 where
   pub settings : (n ≡ 1) ↔ SettingsFail cfg
   pub profile : (n ≡ 2) ↔ (Accepted cfg × ProfileOut p)
 
--- 3 to 6, where what is tested before them passes
+-- 3 to 6 the same; Before is that what is tested before them passes
 pub record StateNumbers (n : ℕ) (Before : Type 0) (s : State) : Type 0 where
-  pub candidates : (n ≡ 3) ↔ (Before × Many s)
-  pub current : (n ≡ 4) ↔ (Before × Few s × Unled s)
-  pub numbers : (n ≡ 5) ↔ (Before × Few s × Led s × Shared s)
-  pub ladders : (n ≡ 6) ↔ (Before × Few s × Led s × Different s × Some Stray (laddersOf s))
+  pub candidates : (n ≡ 3) ↔ (Before × TooMany s)
+  pub current : (n ≡ 4) ↔ (Before × CountOk s × WithoutCurrent s)
+  pub numbers : (n ≡ 5) ↔ (Before × CountOk s × WithCurrent s × Shared s)
+  pub ladders : (n ≡ 6) ↔ (Before × CountOk s × WithCurrent s × Different s × Some LadderOut (laddersOf s))
 
 -- 1 to 6 pass
 pub record LinkOk (s : State) (cfg : Config) (p : Profile) : Type 0 where
@@ -46,7 +46,7 @@ pub record Placed (n place : ℕ) (cfg : Config) : Type 0 where
   pub check : n ≡ 1 → FailsAt cfg place
   pub none : (n ≡ 1 → ⊥) → place ≡ 0
 
--- ---- one test and the rest
+-- ---- one test, of number k, and the rest, which gives f
 
 -- no number, or one above k
 abbrev pub Above : ℕ → ℕ → Type 0
@@ -197,25 +197,25 @@ module _ (s : State) where
   pub state-high : Above 2 (stateBack s)
   state-high = rw three-six (above-pick (candsBad s) (omega arith) above-four)
 
-  after-three : (m : ℕ) → (3 ≡ m → ⊥) → (stateBack s ≡ m) ↔ (Few s × (four ≡ m))
+  after-three : (m : ℕ) → (3 ≡ m → ⊥) → (stateBack s ≡ m) ↔ (CountOk s × (four ≡ m))
   after-three m n = rw three-six (past (reads-many s) 3 four m n)
 
-  after-four : (m : ℕ) → (4 ≡ m → ⊥) → (four ≡ m) ↔ (Led s × (five ≡ m))
-  after-four m n = past (reads-unled s) 4 five m n
+  after-four : (m : ℕ) → (4 ≡ m → ⊥) → (four ≡ m) ↔ (WithCurrent s × (five ≡ m))
+  after-four m n = past (reads-current s) 4 five m n
 
   after-five : (m : ℕ) → (5 ≡ m → ⊥) → (five ≡ m) ↔ (Different s × (six ≡ m))
   after-five m n = past (reads-shared s) 5 six m n
 
-  is-three : (stateBack s ≡ 3) ↔ Many s
+  is-three : (stateBack s ≡ 3) ↔ TooMany s
   is-three = rw three-six (here (reads-many s) 3 four (omega arith) above-four)
 
-  is-four : (stateBack s ≡ 4) ↔ (Few s × Unled s)
-  is-four = and-then (after-three 4 (λ e. omega arith)) (here (reads-unled s) 4 five (omega arith) above-five)
+  is-four : (stateBack s ≡ 4) ↔ (CountOk s × WithoutCurrent s)
+  is-four = and-then (after-three 4 (λ e. omega arith)) (here (reads-current s) 4 five (omega arith) above-five)
 
-  is-five : (stateBack s ≡ 5) ↔ (Few s × (Led s × Shared s))
+  is-five : (stateBack s ≡ 5) ↔ (CountOk s × (WithCurrent s × Shared s))
   is-five = and-then (after-three 5 (λ e. omega arith)) (and-then (after-four 5 (λ e. omega arith)) (here (reads-shared s) 5 six (omega arith) above-six))
 
-  is-six : (stateBack s ≡ 6) ↔ (Few s × (Led s × (Different s × Some Stray (laddersOf s))))
+  is-six : (stateBack s ≡ 6) ↔ (CountOk s × (WithCurrent s × (Different s × Some LadderOut (laddersOf s))))
   is-six =
       and-then (after-three 6 (λ e. omega arith))
       (and-then (after-four 6 (λ e. omega arith))
@@ -227,8 +227,8 @@ module _ (s : State) where
       (and-then (after-three 0 (λ e. omega arith))
       (and-then (after-four 0 (λ e. omega arith))
       (and-then (after-five 0 (λ e. omega arith)) (past (reads-ladders s) 6 0 0 (λ e. omega arith))))) (
-        λ x. record { few = x .0; led = x .1 .0; different = x .1 .1 .0; ladders = x .1 .1 .1 .0 },
-        λ o. (o .few, (o .led, (o .different, (o .ladders, refl)))),
+        λ x. record { count = x .0; current = x .1 .0; different = x .1 .1 .0; ladders = x .1 .1 .1 .0 },
+        λ o. (o .count, (o .current, (o .different, (o .ladders, refl)))),
       )
 
   -- the words are those of a sound state, place by place

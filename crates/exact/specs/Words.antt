@@ -1,7 +1,7 @@
 -- Refusals 1 to 7 in document 01's words: what sends a call back, and what passes.
 use Prim.Native.Nat.{ℕ, zero, suc, _≤_, _<_, _+_}
 use mathlib.Core.Bool.{Bool, true, false, not, _&&_, _||_, true≢false, false≢true}
-use mathlib.Core.Logic.{_↔_, _⊎_, inl, inr, ⊎-elim}
+use mathlib.Core.Logic.{_⊎_, inl, inr, ⊎-elim}
 use mathlib.Core.Path.{_≡_, refl, sym, _∙_}
 use mathlib.Core.List.{List, [], _∷_}
 use native.Mathlib.Omega.{arith}
@@ -83,29 +83,29 @@ pub record GivenOk (cfg : Config) (p : Profile) : Type 0 where
 
 -- ---- 3. "The state holds more than 32 candidates."
 
-abbrev pub Many : State → Type 0
-Many s = 32 < s .cands .len
+abbrev pub TooMany : State → Type 0
+TooMany s = 32 < s .cands .len
 
-abbrev pub Few : State → Type 0
-Few s = s .cands .len ≤ 32
+abbrev pub CountOk : State → Type 0
+CountOk s = s .cands .len ≤ 32
 
-pub reads-many : (s : State) → Reads (candsBad s) (Many s) (Few s)
+pub reads-many : (s : State) → Reads (candsBad s) (TooMany s) (CountOk s)
 reads-many s = reads-less 32 (s .cands .len)
 
 -- ---- 4. "A pending or drained epoch stands without a current one."
 
-abbrev pub Follows : State → Type 0
-Follows s = (isPending (s .cycle .kind) ≡ true) ⊎ (s .drain .some ≡ true)
+abbrev pub PendingOrDrained : State → Type 0
+PendingOrDrained s = (isPending (s .cycle .kind) ≡ true) ⊎ (s .drain .some ≡ true)
 
-abbrev pub Unled : State → Type 0
-Unled s = Follows s × (s .cur .some ≡ false)
+abbrev pub WithoutCurrent : State → Type 0
+WithoutCurrent s = PendingOrDrained s × (s .cur .some ≡ false)
 
-abbrev pub Led : State → Type 0
-Led s = Follows s → s .cur .some ≡ true
+abbrev pub WithCurrent : State → Type 0
+WithCurrent s = PendingOrDrained s → s .cur .some ≡ true
 
-pub reads-unled : (s : State) → Reads (epochsBad s) (Unled s) (Led s)
+pub reads-current : (s : State) → Reads (epochsBad s) (WithoutCurrent s) (WithCurrent s)
 unfolding epochsBadOf
-reads-unled s = under (s .cur .some) (isPending (s .cycle .kind)) (s .drain .some)
+reads-current s = under (s .cur .some) (isPending (s .cycle .kind)) (s .drain .some)
   where
     under : (c p d : Bool) → Reads (not c && (p || d)) (((p ≡ true) ⊎ (d ≡ true)) × (c ≡ false)) ((p ≡ true) ⊎ (d ≡ true) → c ≡ true)
     under true p d =
@@ -138,16 +138,16 @@ reads-shared s =
 
 -- ---- 6. "A ladder has more than 16 rungs, or stands past its last."
 
-abbrev pub Stray : Ladder → Type 0
-Stray l = (maxRungs < l .sched .len) ⊎ (l .sched .len < l .next)
+abbrev pub LadderOut : Ladder → Type 0
+LadderOut l = (maxRungs < l .sched .len) ⊎ (l .sched .len < l .next)
 
-abbrev pub Fit : Ladder → Type 0
-Fit l = Within (l .sched .len) (l .next)
+abbrev pub LadderOk : Ladder → Type 0
+LadderOk l = Within (l .sched .len) (l .next)
 
-pub reads-ladders : (s : State) → Reads (laddersBad s) (Some Stray (laddersOf s)) (Each Fit (laddersOf s))
+pub reads-ladders : (s : State) → Reads (laddersBad s) (Some LadderOut (laddersOf s)) (Each LadderOk (laddersOf s))
 unfolding laddersBad ladderBad
 reads-ladders s =
-    reads-any (λ l. ladderBad (l .sched .len) (l .next)) Stray Fit
+    reads-any (λ l. ladderBad (l .sched .len) (l .next)) LadderOut LadderOk
     (λ l.
     reads-as (reads-or (reads-less maxRungs (l .sched .len)) (reads-less (l .sched .len) (l .next)))
     (λ x. x, λ x. x)
@@ -156,10 +156,10 @@ reads-ladders s =
 
 -- 3 to 6 pass: "a state [is accepted] when 3 to 6 pass it"
 pub record StateOk (s : State) : Type 0 where
-  pub few : Few s
-  pub led : Led s
+  pub count : CountOk s
+  pub current : WithCurrent s
   pub different : Different s
-  pub ladders : Each Fit (laddersOf s)
+  pub ladders : Each LadderOk (laddersOf s)
 
 -- ---- 7. "A draw lies outside its range." "Spread, from −J to J"; "Extra, from 0 to J"
 

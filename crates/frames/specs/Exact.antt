@@ -3,11 +3,9 @@
 use Prim.Native.Nat.{ℕ}
 use mathlib.Core.Bool.{Bool, true, false}
 use mathlib.Core.Logic.{_↔_, inl, inr, Iff·trans}
-use mathlib.Core.Path.{_≡_, refl, ap, _∙_}
-use mathlib.Core.List.{List, [], _∷_, _++_}
+use mathlib.Core.Path.{_≡_, refl}
+use mathlib.Core.List.{List, [], _∷_}
 use native.Mathlib.Omega.{arith}
-use borrow.Author.Tests.{ne-eqb}
-use lib.Dec.{eqb}
 use lib.IntN.{ℤ}
 use Rattle.time.specs.Pick.{pick}
 use Rattle.settings.specs.declared.Config.{Config}
@@ -17,10 +15,10 @@ use Rattle.refusal.specs.Refusal.{anyOf, spreadBad, Test, first, by, givenTests
 use Rattle.refusal.specs.First.{rising}
 use Rattle.exact.specs.Reads.{reads-flag, reads-same, reads-not}
 use Rattle.exact.specs.Words.{GivenOk, SpreadOk, SpreadOut, reads-spread}
-use Rattle.exact.specs.Numbers.{GivenNumbers, StateNumbers, LinkOk, Placed, Linked, anyPlace, above-pick, here, past, and-then, number-more, linked}
+use Rattle.exact.specs.Numbers.{GivenNumbers, StateNumbers, LinkOk, Placed, Linked, anyPlace, above-pick, here, past, and-then, linked}
 use Rattle.frame.specs.declared.FrameProof.{FrameProof}
-use Rattle.frame.specs.Frame.{slotTag, frameOf}
-use Rattle.frames.specs.Frames.{slotEmpty, otherTag, heardTests, frameRefused, givenOf, FrameAnswer, frameAnswer}
+use Rattle.frame.specs.Frame.{slotTag}
+use Rattle.frames.specs.Frames.{slotEmpty, otherTag, heardTests, frameRefused, FrameAnswer, frameAnswer}
 use Rattle.frames.specs.Laws.{frame-back-leaves}
 
 -- 1 to 9 pass

@@ -1,10 +1,10 @@
 -- A start reply's number in document 01's words: accepted exactly where 1 to 6 and 10 pass, and each
 -- number exactly where its sentence is the first to hold.
 use Prim.Native.Nat.{ℕ, _≤_, _<_}
-use mathlib.Core.Bool.{Bool, true, false, not}
+use mathlib.Core.Bool.{true, false, not}
 use mathlib.Core.Logic.{_↔_, _⊎_, inl, inr, Iff·trans}
 use mathlib.Core.Path.{_≡_, refl, ap}
-use mathlib.Core.List.{List, [], _∷_}
+use mathlib.Core.List.{[], _∷_}
 use native.Mathlib.Omega.{arith}
 use borrow.Author.Tests.{ne-eqb}
 use Rattle.time.specs.Pick.{pick}
@@ -12,7 +12,7 @@ use Rattle.settings.specs.declared.Config.{Config}
 use Rattle.state.specs.declared.State.{State}
 use Rattle.state.specs.declared.Profile.{Profile}
 use Rattle.start.specs.Start.{startKind, calledFor}
-use Rattle.refusal.specs.Refusal.{anyOf, Test, first, by, givenTests, stateTests, replyTests}
+use Rattle.refusal.specs.Refusal.{anyOf, first, by, givenTests, stateTests, replyTests}
 use Rattle.refusal.specs.First.{rising}
 use Rattle.exact.specs.Reads.{Reads, reads-flag, reads-less, reads-and, reads-not, reads-as}
 use Rattle.exact.specs.Words.{GivenOk}
