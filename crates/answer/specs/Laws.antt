@@ -1,10 +1,12 @@
--- That the log which a call fills is what `Written` says.
+-- That the log which a call fills is what `Written` says, and laws of the two ways out of a call.
 use Prim.Native.Nat.{ℕ, zero, suc, _≤_, _<_, _+_, _*_}
 use mathlib.Core.Bool.{Bool, true, false}
 use mathlib.Core.Path.{_≡_, refl, sym, _∙_, ap, ap₂}
 use mathlib.Core.List.{List, [], _∷_, _++_, map}
 use native.Mathlib.Omega.{arith}
 use native.Mathlib.Nat.{zero-add}
+use borrow.Author.Tests.{eq-eqb, ne-eqb, eqb-true, eqb-false}
+use lib.Dec.{eqb}
 use lib.ListN.{length, getD, drop, set, length-append, length-drop}
 use lib.Seq.{sets, sets-eq}
 use Rattle.time.specs.declared.When.{When}
@@ -15,6 +17,9 @@ use Rattle.events.specs.Events.{Event, wordsOf, eight-words}
 use Rattle.events.specs.Log.{Log, at, stored, pushed, logged, placeOf, takenOf, held, at-len, at-words}
 use Rattle.events.specs.Held.{stored-at, stored-len, stored-behind, same-on, held-taken, held-empty, answer-len, held-answer}
 use Rattle.events.specs.Withdraw.{wordsStay, stays, sifted, withdrawn}
+use Rattle.state.specs.declared.State.{State}
+use Rattle.refusal.specs.declared.Refused.{Refused}
+use Rattle.answer.specs.Outcome.{Outcome, refusedOf, sentBack, outcomeBy}
 use Rattle.answer.specs.Written.{wordsIn, over, Written}
 
 -- ---- the words of events
@@ -128,3 +133,49 @@ module _ (number : ℕ) (first out : List Event) (len : ℕ) (ws ws′ : List �
 pub written-all : (number : ℕ) (out : List Event) (len : ℕ) (ws ws′ : List ℕ) → length ws ≡ 768 → length out ≤ 96 → at len ws′ ≡ logged (at 0 ws) out → ((number ≡ 0 → ⊥) → out ≡ []) → Written number [] out len ws ws′
 unfolding over wordsIn
 written-all number out len ws ws′ k o e b = written number [] out len ws ws′ k (omega arith) o e (λ n. (refl, b n))
+
+-- ---- the two ways out
+
+module _ (r : Refused) (s : State) (o : Outcome) where
+  pub by-back : (r .number ≡ 0 → ⊥) → outcomeBy r s o ≡ sentBack r s
+  unfolding outcomeBy
+  by-back n = ap (λ b. pick b o (sentBack r s)) (ne-eqb (r .number) 0 n)
+
+  pub by-taken : r .number ≡ 0 → outcomeBy r s o ≡ o
+  unfolding outcomeBy
+  by-taken z = ap (λ b. pick b o (sentBack r s)) (eq-eqb (r .number) 0 z)
+
+  -- what holds of both holds of the outcome
+  pub by-test : (P : Outcome → Type 0) → P (sentBack r s) → (eqb (r .number) 0 ≡ true → P o) → P (outcomeBy r s o)
+  unfolding outcomeBy
+  by-test P x y = under (eqb (r .number) 0) refl
+    where
+      under : (b : Bool) → eqb (r .number) 0 ≡ b → P (pick b o (sentBack r s))
+      under true e = y e
+      under false e = x
+
+  pub by-either : (P : Outcome → Type 0) → P (sentBack r s) → P o → P (outcomeBy r s o)
+  by-either P x y = by-test P x (λ e. y)
+
+  -- number and place are those of the tests, where tests that give no number give no place
+  pub by-refused : o .number ≡ 0 → o .place ≡ 0 → (r .number ≡ 0 → r .place ≡ 0) → refusedOf (outcomeBy r s o) ≡ r
+  unfolding outcomeBy
+  by-refused n p f = under (eqb (r .number) 0) refl
+    where
+      under : (b : Bool) → eqb (r .number) 0 ≡ b → refusedOf (pick b o (sentBack r s)) ≡ r
+      under true e =
+          let z = eqb-true (r .number) 0 e in
+          ap₂ (λ a b. record { number = a; place = b }) (n ∙ sym z) (p ∙ sym (f z))
+      under false e = refl
+
+  -- the number decides which of the two it is
+  pub by-zero : o .number ≡ 0 → outcomeBy r s o .number ≡ 0 → r .number ≡ 0
+  by-zero n z = under (eqb (r .number) 0) refl z
+    where
+      under : (b : Bool) → eqb (r .number) 0 ≡ b → outcomeBy r s o .number ≡ 0 → r .number ≡ 0
+      under true e z = eqb-true (r .number) 0 e
+      under false e z = sym (ap (λ (q : Outcome). q .number) (by-back (eqb-false (r .number) 0 e))) ∙ z
+
+  -- sent back, it is the number alone
+  pub by-nonzero : o .number ≡ 0 → (outcomeBy r s o .number ≡ 0 → ⊥) → outcomeBy r s o ≡ sentBack r s
+  by-nonzero n h = by-back (λ z. h (ap (λ (q : Outcome). q .number) (by-taken z) ∙ n))

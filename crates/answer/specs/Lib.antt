@@ -1,2 +1,4 @@
+pub mod Outcome
 pub mod Written
 pub mod Laws
+pub mod Answers

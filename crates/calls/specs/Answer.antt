@@ -1,37 +1,31 @@
--- What the code of `open` promises: the answer, field by field, and the words of the log.
+-- What the code of `open` promises, accepted: the answer with the words of the log.
 use Prim.Native.Nat.{ℕ}
 use mathlib.Core.Bool.{Bool}
-use mathlib.Core.Path.{_≡_, ap}
-use mathlib.Core.List.{List, []}
+use mathlib.Core.Path.{_≡_, refl}
+use mathlib.Core.List.{List}
 use native.Mathlib.Omega.{arith}
 use lib.IntN.{ℤ}
 use lib.ListN.{length}
-use borrow.Author.Tests.{ne-eqb}
-use Rattle.time.specs.Pick.{pick}
 use Rattle.settings.specs.declared.Config.{Config}
 use Rattle.epoch.specs.declared.Index.{Index}
+use Rattle.state.specs.declared.State.{State}
 use Rattle.state.specs.declared.Profile.{Profile}
-use Rattle.events.specs.Log.{at, logged}
-use Rattle.answer.specs.Written.{Written}
-use Rattle.answer.specs.Laws.{written-all}
+use Rattle.events.specs.Log.{Appends}
+use Rattle.refusal.specs.declared.Refused.{Refused}
 use Rattle.refusal.specs.Refusal.{beforeOpen}
-use Rattle.calls.specs.declared.Opened.{Opened}
-use Rattle.calls.specs.Open.{Open, firstEpoch, installOut, openOf}
-use Rattle.calls.specs.Laws.{open-few}
-
--- the record, and the log, from which `open` withdraws nothing
-pub record Opens (o : Open) (r : Opened) (ws ws′ : List ℕ) : Type 0 where
-  pub number : r .number ≡ o .number
-  pub place : r .place ≡ o .place
-  pub state : r .state ≡ o .state
-  pub log : Written (o .number) [] (o .out) (r .len) ws ws′
+use Rattle.answer.specs.declared.Answer.{Answer}
+use Rattle.answer.specs.Laws.{written-all}
+use Rattle.answer.specs.Answers.{Answers, takenWith, answers-on}
+use Rattle.calls.specs.Open.{firstEpoch, freshState, blankState, installOut, opened, openOf}
+use Rattle.calls.specs.Laws.{few}
 
 module _ (cfg : Config) (p : Profile) (responder : Bool) (transport : ℕ) (lease : Index) (workers : Bool) (spread : ℤ) (time : ℕ) where
-  -- an `open` that is sent back tells nothing
-  pub open-back-leaves : (openOf cfg p responder transport lease workers spread time .number ≡ 0 → ⊥) → openOf cfg p responder transport lease workers spread time .out ≡ []
-  unfolding openOf
-  open-back-leaves n = ap (λ b. pick b (installOut (firstEpoch responder transport lease time) workers) []) (ne-eqb (beforeOpen cfg p spread .number) 0 n)
-
-  pub open-written : (len : ℕ) (ws ws′ : List ℕ) → length ws ≡ 768 → at len ws′ ≡ logged (at 0 ws) (openOf cfg p responder transport lease workers spread time .out) → Written (openOf cfg p responder transport lease workers spread time .number) [] (openOf cfg p responder transport lease workers spread time .out) len ws ws′
-  open-written len ws ws′ k e =
-      written-all _ _ len ws ws′ k (omega (arith, open-few cfg p responder transport lease workers spread time)) e open-back-leaves
+  pub open-on :
+      (back : Refused) → back ≡ beforeOpen cfg p spread → (a : Answer) → back .number ≡ 0
+      → (left : State) (len : ℕ) → a ≡ takenWith left len 0 → left ≡ freshState responder transport lease spread time
+      → (ws ws′ : List ℕ) → length ws ≡ 768 → Appends (installOut (firstEpoch responder transport lease time) workers) 0 ws len ws′
+      → Answers (openOf cfg p responder transport lease workers spread time) a ws ws′
+  unfolding openOf opened
+  open-on back b a z left len e h ws ws′ k w =
+      answers-on (beforeOpen cfg p spread) blankState (opened responder transport lease workers spread time) back b a z left len 0 e refl refl h refl ws ws′
+      (written-all 0 (installOut (firstEpoch responder transport lease time) workers) len ws ws′ k (omega (arith, few (firstEpoch responder transport lease time) workers)) w (λ n. absurd (n refl)))

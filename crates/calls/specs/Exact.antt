@@ -4,7 +4,7 @@
 use Prim.Native.Nat.{ℕ, _≤_, _<_}
 use mathlib.Core.Bool.{Bool, true, false, false≢true}
 use mathlib.Core.Logic.{_↔_, _⊎_, inl, inr, ⊎-elim, Iff·trans}
-use mathlib.Core.Path.{_≡_, refl, sym, _∙_, ap}
+use mathlib.Core.Path.{_≡_, refl, sym, _∙_, ap, subst}
 use mathlib.Core.List.{List, [], _∷_}
 use native.Mathlib.Omega.{arith}
 use borrow.Author.Tests.{eq-eqb, ne-eqb}
@@ -16,15 +16,17 @@ use Rattle.epoch.specs.declared.Index.{Index}
 use Rattle.state.specs.declared.State.{State}
 use Rattle.state.specs.declared.Profile.{Profile}
 use Rattle.wake.specs.Wake.{wakeOf}
-use Rattle.refusal.specs.Refusal.{anyOf, spreadBad, Test, first, by, givenTests, stateTests, openTests, replyTests, beforeOpen, beforeReply}
+use Rattle.refusal.specs.declared.Refused.{Refused}
+use Rattle.refusal.specs.Refusal.{anyOf, spreadBad, Test, numbered, first, by, givenTests, stateTests, openTests, replyTests, beforeOpen, beforeReply}
 use Rattle.refusal.specs.First.{rising}
+use Rattle.answer.specs.Outcome.{Outcome, refusedOf, done, outcomeBy}
+use Rattle.answer.specs.Laws.{by-either, by-refused, by-nonzero}
 use Rattle.exact.specs.Reads.{Reads, reads-flag, reads-less, reads-and, reads-as}
 use Rattle.exact.specs.Words.{GivenOk, StateOk, SpreadOk, SpreadOut, reads-spread}
 use Rattle.exact.specs.Numbers.{GivenNumbers, StateNumbers, LinkOk, Placed, Opening, Linked, Standing, anyPlace, and-then, alone-holds, alone-fails, opening, linked, standing}
-use Rattle.calls.specs.declared.Counted.{Counted}
 use Rattle.calls.specs.declared.Woke.{Woke}
 use Rattle.calls.specs.declared.Shown.{Shown}
-use Rattle.calls.specs.Open.{firstEpoch, freshState, blankState, installOut, Open, openOf}
+use Rattle.calls.specs.Open.{blankState, opened, openOf}
 use Rattle.calls.specs.Told.{belowHeld, toldTests, toldNumber, toldState, toldOf}
 use Rattle.calls.specs.Read.{wokeOf, statusOf}
 
@@ -35,7 +37,7 @@ pub record OpenOk (cfg : Config) (p : Profile) (spread : ℤ) : Type 0 where
   pub given : GivenOk cfg p
   pub drawn : SpreadOk (cfg .jitter) spread
 
-pub record OpenExact (cfg : Config) (p : Profile) (spread : ℤ) (a : Open) : Type 0 where
+pub record OpenExact (cfg : Config) (p : Profile) (spread : ℤ) (a : Outcome) : Type 0 where
   pub accepted : (a .number ≡ 0) ↔ OpenOk cfg p spread
   -- 1 and 2
   pub given : GivenNumbers (a .number) cfg p
@@ -50,19 +52,28 @@ module _ (cfg : Config) (p : Profile) (spread : ℤ) where
   unfolding openTests givenTests rising anyPlace anyOf
   open-turn = opening cfg p (by 7 (spreadBad (cfg .jitter) spread) ∷ []) refl refl
 
+  -- the same of the outcome of an `open`
+  open-told : (s : State) (o : Outcome) → o .number ≡ 0 → o .place ≡ 0 → Opening (refusedOf (outcomeBy (beforeOpen cfg p spread) s o)) (first (by 7 (spreadBad (cfg .jitter) spread) ∷ []) .number) cfg p
+  open-told s o n q =
+      subst (λ r. Opening r (first (by 7 (spreadBad (cfg .jitter) spread) ∷ []) .number) cfg p)
+      (sym (by-refused (beforeOpen cfg p spread) s o n q (λ z. open-turn .place .none (λ e. omega arith))))
+      open-turn
+
   pub open-exact : (responder : Bool) (transport : ℕ) (lease : Index) (workers : Bool) (time : ℕ) → OpenExact cfg p spread (openOf cfg p responder transport lease workers spread time)
-  unfolding openOf
+  unfolding openOf opened
   open-exact responder transport lease workers time =
+      let o = opened responder transport lease workers spread time in
+      let l = open-told blankState o refl refl in
       record {
         accepted =
-            Iff·trans (and-then (open-turn .later 0 (inl refl)) (alone-fails (reads-spread (cfg .jitter) spread) 7 (omega arith)))
+            Iff·trans (and-then (l .later 0 (inl refl)) (alone-fails (reads-spread (cfg .jitter) spread) 7 (omega arith)))
             (λ x. record { given = x .0; drawn = x .1 }, λ o. (o .given, o .drawn));
-        given = open-turn .given;
-        draw = and-then (open-turn .later 7 (inr (omega arith))) (alone-holds (reads-spread (cfg .jitter) spread) 7 (omega arith));
-        place = open-turn .place;
+        given = l .given;
+        draw = and-then (l .later 7 (inr (omega arith))) (alone-holds (reads-spread (cfg .jitter) spread) 7 (omega arith));
+        place = l .place;
         back = λ h.
-            let e = ne-eqb (beforeOpen cfg p spread .number) 0 h in
-            (ap (λ b. pick b (freshState responder transport lease spread time) blankState) e, ap (λ b. pick b (installOut (firstEpoch responder transport lease time) workers) []) e);
+            let e = by-nonzero (beforeOpen cfg p spread) blankState o refl h in
+            (ap (λ (x : Outcome). x .state) e, ap (λ (x : Outcome). x .out) e);
       }
 
 -- ---- a told sent count
@@ -91,11 +102,15 @@ pub record ToldOk (s : State) (count : ℕ) : Type 0 where
   pub state : StateOk s
   pub held : NotBelow s count
 
-pub record ToldExact (s : State) (count : ℕ) (a : Counted) : Type 0 where
+pub record ToldExact (s : State) (count : ℕ) (a : Outcome) : Type 0 where
   pub accepted : (a .number ≡ 0) ↔ ToldOk s count
   -- 3 to 6; nothing is tested before them
   pub state : StateNumbers (a .number) (Unit {0}) s
   pub below : (a .number ≡ 11) ↔ (StateOk s × BelowHeld s count)
+  -- number 1 is never given, and so there is no place
+  pub place : a .place ≡ 0
+  -- it has no event
+  pub silent : a .out ≡ []
   -- the state remains
   pub back : (a .number ≡ 0 → ⊥) → a .state ≡ s
 
@@ -110,13 +125,19 @@ module _ (s : State) (count : ℕ) where
   pub told-exact : ToldExact s count (toldOf s count)
   unfolding toldOf
   told-exact =
+      let r = numbered (toldNumber s count) in
+      let o = done (toldState s count) [] in
+      let e = by-refused r s o refl refl (λ z. refl) in
+      let l = subst (λ n. Standing n (first eleven .number) s) (sym (ap (λ (q : Refused). q .number) e)) told-turn in
       record {
         accepted =
-            Iff·trans (and-then (told-turn .later 0 (inl refl)) (alone-fails (reads-held s count) 11 (omega arith)))
+            Iff·trans (and-then (l .later 0 (inl refl)) (alone-fails (reads-held s count) 11 (omega arith)))
             (λ x. record { state = x .0; held = x .1 }, λ o. (o .state, o .held));
-        state = told-turn .state;
-        below = and-then (told-turn .later 11 (inr (omega arith))) (alone-holds (reads-held s count) 11 (omega arith));
-        back = λ h. ap (λ b. pick b (toldState s count) s) (ne-eqb (toldNumber s count) 0 h);
+        state = l .state;
+        below = and-then (l .later 11 (inr (omega arith))) (alone-holds (reads-held s count) 11 (omega arith));
+        place = ap (λ (q : Refused). q .place) e;
+        silent = by-either r s o (λ x. x .out ≡ []) refl refl;
+        back = λ h. ap (λ (x : Outcome). x .state) (by-nonzero r s o refl h);
       }
 
 -- ---- the wake and the status: 1 to 6

@@ -9,7 +9,7 @@ use lib.Dec.{eqb}
 use lib.IntN.{ℤ}
 use lib.ListN.{length, length-append}
 use borrow.Author.Tests.{le-ltb, ne-eqb}
-use Rattle.time.specs.Pick.{pick}
+use Rattle.time.specs.Pick.{pick, of-choice}
 use Rattle.time.specs.Lists.{range}
 use Rattle.time.specs.Time.{at, least}
 use Rattle.settings.specs.declared.Config.{Config}
@@ -24,11 +24,13 @@ use Rattle.state.specs.Parts.{putCur, pendingOf, epochsOf, epochLadders, cycleL
 use Rattle.events.specs.Events.{Event, Installed, Prompt, Delegate, Bind}
 use Rattle.events.specs.Numbers.{purposeCurrent}
 use Rattle.retire.specs.Retire.{only, offerable, floorTold, delegateOut}
-use Rattle.refusal.specs.Refusal.{anyOf, isPending, epochsBadOf, epochsBad, candsBad, numbersBad, laddersBad, first, by, stateTests, stateBack, beforeOpen}
+use Rattle.refusal.specs.declared.Refused.{Refused}
+use Rattle.refusal.specs.Refusal.{anyOf, isPending, epochsBadOf, epochsBad, candsBad, numbersBad, laddersBad, numbered, first, by, stateTests, stateBack, beforeOpen}
 use Rattle.refusal.specs.First.{rising, backAt, backBelow, exactly}
-use Rattle.calls.specs.declared.Counted.{Counted}
+use Rattle.answer.specs.Outcome.{done}
+use Rattle.answer.specs.Laws.{by-either, by-refused}
 use Rattle.calls.specs.Blank.{noIndex, noFinal, noRepeats, noCurrent, noDrain, idle, noCandidates}
-use Rattle.calls.specs.Open.{newMemory, firstEpoch, alone, freshState, blankState, installOut, openOf}
+use Rattle.calls.specs.Open.{newMemory, firstEpoch, alone, freshState, blankState, installOut, opened, openOf}
 use Rattle.calls.specs.Told.{putSent, belowHeld, toldTests, toldNumber, toldState, toldOf}
 
 -- ---- open
@@ -44,12 +46,10 @@ unfolding stateBack stateTests first anyOf isPending epochsBadOf numbersBad ladd
 blank-accepted = refl
 
 pub open-accepted : (cfg : Config) (p : Profile) (responder : Bool) (transport : ℕ) (lease : Index) (workers : Bool) (spread : ℤ) (time : ℕ) → stateBack (openOf cfg p responder transport lease workers spread time .state) ≡ 0
-unfolding openOf
-open-accepted cfg p responder transport lease workers spread time = under (eqb (beforeOpen cfg p spread .number) 0)
-  where
-    under : (b : Bool) → stateBack (pick b (freshState responder transport lease spread time) blankState) ≡ 0
-    under true = fresh-accepted responder transport lease spread time
-    under false = blank-accepted
+unfolding openOf opened
+open-accepted cfg p responder transport lease workers spread time =
+    by-either (beforeOpen cfg p spread) blankState (opened responder transport lease workers spread time) (λ o. stateBack (o .state) ≡ 0) blank-accepted
+    (fresh-accepted responder transport lease spread time)
 
 -- document 01's case: a responder with no lease, workers off
 pub printed : (transport : ℕ) → installOut (firstEpoch true transport noIndex 1000) false ≡ Installed 1 true 5 ∷ Prompt 1 ∷ []
@@ -66,7 +66,7 @@ only-one : (b : Bool) (v : Event) → length (only b v) ≤ 1
 only-one true v = omega arith
 only-one false v = omega arith
 
-few : (e : Epoch) (workers : Bool) → length (installOut e workers) ≤ 4
+pub few : (e : Epoch) (workers : Bool) → length (installOut e workers) ≤ 4
 unfolding installOut delegateOut
 few e workers =
     simp length-append
@@ -78,12 +78,10 @@ few e workers =
     ))
 
 pub open-few : (cfg : Config) (p : Profile) (responder : Bool) (transport : ℕ) (lease : Index) (workers : Bool) (spread : ℤ) (time : ℕ) → length (openOf cfg p responder transport lease workers spread time .out) ≤ 4
-unfolding openOf
-open-few cfg p responder transport lease workers spread time = under (eqb (beforeOpen cfg p spread .number) 0)
-  where
-    under : (b : Bool) → length (pick b (installOut (firstEpoch responder transport lease time) workers) []) ≤ 4
-    under true = few (firstEpoch responder transport lease time) workers
-    under false = omega arith
+unfolding openOf opened
+open-few cfg p responder transport lease workers spread time =
+    by-either (beforeOpen cfg p spread) blankState (opened responder transport lease workers spread time) (λ o. length (o .out) ≤ 4) (omega arith)
+    (few (firstEpoch responder transport lease time) workers)
 
 -- ---- a told sent count
 
@@ -111,9 +109,15 @@ module _ (s : State) where
       both false e = refl
 
   -- a count equal to the held one is refused by 3 to 6 alone, and changes nothing
-  pub told-equal : toldOf s (s .cur .ep .sent) ≡ record { number = stateBack s; state = s }
+  pub told-equal : (toldOf s (s .cur .ep .sent) .number ≡ stateBack s) × (toldOf s (s .cur .ep .sent) .state ≡ s)
   unfolding toldOf toldState
-  told-equal = under (s .cur .some) (eqb (toldNumber s (s .cur .ep .sent)) 0) number
+  told-equal =
+      let count = s .cur .ep .sent in
+      let r = numbered (toldNumber s count) in
+      let o = done (pick (s .cur .some) (putCur s (putEp (s .cur) (putSent (s .cur .ep) count))) s) [] in (
+        ap (λ (q : Refused). q .number) (by-refused r s o refl refl (λ z. refl)) ∙ number,
+        by-either r s o (λ x. x .state ≡ s) refl (of-choice (λ x. x ≡ s) (s .cur .some) (putCur s (putEp (s .cur) (putSent (s .cur .ep) count))) s refl refl),
+      )
     where
       same : (n : ℕ) → pick (eqb n 0) 0 n ≡ n
       same zero = refl
@@ -125,21 +129,12 @@ module _ (s : State) where
           ∙ (ap (λ b. pick (eqb (stateBack s) 0) (pick b 11 0) (stateBack s)) not-below
           ∙ same (stateBack s))
 
-      under : (some ok : Bool) {n : ℕ} → n ≡ stateBack s → _≡_ {A = Counted} (record { number = n; state = pick ok (pick some s s) s }) (record { number = stateBack s; state = s })
-      under true true e = ap (λ k. record { number = k; state = s }) e
-      under true false e = ap (λ k. record { number = k; state = s }) e
-      under false true e = ap (λ k. record { number = k; state = s }) e
-      under false false e = ap (λ k. record { number = k; state = s }) e
-
   -- without a current epoch nothing changes
   pub told-absent : (count : ℕ) → s .cur .some ≡ false → toldOf s count .state ≡ s
   unfolding toldOf toldState
   told-absent count e =
-      ap (λ b. pick (eqb (toldNumber s count) 0) (pick b (putCur s (putEp (s .cur) (putSent (s .cur .ep) count))) s) s) e ∙ under (eqb (toldNumber s count) 0)
-    where
-      under : (b : Bool) → pick b s s ≡ s
-      under true = refl
-      under false = refl
+      by-either (numbered (toldNumber s count)) s (done (pick (s .cur .some) (putCur s (putEp (s .cur) (putSent (s .cur .ep) count))) s) []) (λ o. o .state ≡ s) refl
+      (ap (λ b. pick b (putCur s (putEp (s .cur) (putSent (s .cur .ep) count))) s) e)
 
   -- no test of 3 to 6 reads the sent count
   unread : (count : ℕ) (some : Bool) (e : Epoch) → stateBack (putCur s (record { some = some; ep = putSent e count })) ≡ stateBack (putCur s (record { some = some; ep = e }))
@@ -150,9 +145,10 @@ module _ (s : State) where
   -- a told count keeps an accepted state accepted
   pub told-accepted : (count : ℕ) → stateBack (toldOf s count .state) ≡ stateBack s
   unfolding toldOf toldState
-  told-accepted count = under (eqb (toldNumber s count) 0) (s .cur .some)
+  told-accepted count =
+      by-either (numbered (toldNumber s count)) s (done (pick (s .cur .some) (putCur s (putEp (s .cur) (putSent (s .cur .ep) count))) s) []) (λ o. stateBack (o .state) ≡ stateBack s) refl
+      (under (s .cur .some))
     where
-      under : (ok some : Bool) → stateBack (pick ok (pick some (putCur s (record { some = s .cur .some; ep = putSent (s .cur .ep) count })) s) s) ≡ stateBack s
-      under true true = unread count (s .cur .some) (s .cur .ep)
-      under true false = refl
-      under false some = refl
+      under : (some : Bool) → stateBack (pick some (putCur s (record { some = s .cur .some; ep = putSent (s .cur .ep) count })) s) ≡ stateBack s
+      under true = unread count (s .cur .some) (s .cur .ep)
+      under false = refl

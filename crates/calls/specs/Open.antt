@@ -3,7 +3,6 @@
 use Prim.Native.Nat.{ℕ}
 use mathlib.Core.Bool.{Bool, true, false}
 use mathlib.Core.List.{List, [], _∷_, _++_}
-use lib.Dec.{eqb}
 use lib.IntN.{ℤ, pos}
 use Rattle.time.specs.declared.When.{When}
 use Rattle.time.specs.Pick.{pick}
@@ -18,8 +17,8 @@ use Rattle.state.specs.declared.Profile.{Profile}
 use Rattle.events.specs.Numbers.{purposeCurrent, evidenceFirst}
 use Rattle.events.specs.Events.{Event, Bind, Installed, Prompt}
 use Rattle.retire.specs.Retire.{only, delegateOut}
-use Rattle.refusal.specs.declared.Refused.{Refused}
 use Rattle.refusal.specs.Refusal.{beforeOpen}
+use Rattle.answer.specs.Outcome.{Outcome, done, outcomeBy}
 use Rattle.calls.specs.Blank.{noIndex, noFinal, noRepeats, noCurrent, noDrain, idle, noCandidates}
 
 -- a number that is there where a flag is on
@@ -96,24 +95,12 @@ installOut e workers =
     ++ (delegateOut e workers
     ++ (Installed (e .tag) (e .responder) evidenceFirst ∷ only (e .responder) (Prompt (e .tag))))
 
-pub record Open : Type 0 where
-  pub number : ℕ
-  pub place : ℕ
-  pub state : State
-  pub out : List Event
+-- the link and its events
+unfoldable pub opened : Bool → ℕ → Index → Bool → ℤ → ℕ → Outcome
+opened responder transport lease workers spread time =
+    done (freshState responder transport lease spread time) (installOut (firstEpoch responder transport lease time) workers)
 
--- the refusal, and where there is none the link and its events
-abbrev pub openBy : Refused → State → List Event → Open
-openBy r s out =
-    record {
-      number = r .number;
-      place = r .place;
-      state = pick (eqb (r .number) 0) s blankState;
-      out = pick (eqb (r .number) 0) out [];
-    }
-
--- 1, 2, 7; a refused call tells nothing, and its state is the blank one
-unfoldable pub openOf : Config → Profile → Bool → ℕ → Index → Bool → ℤ → ℕ → Open
+-- 1, 2, 7; a refused call is given no state, and its answer has the blank one
+unfoldable pub openOf : Config → Profile → Bool → ℕ → Index → Bool → ℤ → ℕ → Outcome
 openOf cfg p responder transport lease workers spread time =
-    openBy (beforeOpen cfg p spread) (freshState responder transport lease spread time)
-    (installOut (firstEpoch responder transport lease time) workers)
+    outcomeBy (beforeOpen cfg p spread) blankState (opened responder transport lease workers spread time)

@@ -3,14 +3,14 @@
 use Prim.Native.Nat.{ℕ}
 use mathlib.Core.Bool.{Bool, _&&_}
 use mathlib.Core.List.{List, [], _∷_, _++_}
-use lib.Dec.{eqb, ltb}
+use lib.Dec.{ltb}
 use Rattle.time.specs.Pick.{pick}
 use Rattle.epoch.specs.declared.Epoch.{Epoch}
 use Rattle.epoch.specs.Put.{putEp}
 use Rattle.state.specs.declared.State.{State}
 use Rattle.state.specs.Parts.{putCur}
-use Rattle.refusal.specs.Refusal.{Test, first, by, stateTests}
-use Rattle.calls.specs.declared.Counted.{Counted}
+use Rattle.refusal.specs.Refusal.{Test, numbered, first, by, stateTests}
+use Rattle.answer.specs.Outcome.{Outcome, done, outcomeBy}
 
 abbrev pub putSent : Epoch → ℕ → Epoch
 putSent e n =
@@ -50,7 +50,6 @@ toldNumber s count = first (toldTests s count) .number
 unfoldable pub toldState : State → ℕ → State
 toldState s count = pick (s .cur .some) (putCur s (putEp (s .cur) (putSent (s .cur .ep) count))) s
 
--- a refused call hands back the state that it was given
-unfoldable pub toldOf : State → ℕ → Counted
-toldOf s count =
-    record { number = toldNumber s count; state = pick (eqb (toldNumber s count) 0) (toldState s count) s }
+-- it has no event
+unfoldable pub toldOf : State → ℕ → Outcome
+toldOf s count = outcomeBy (numbered (toldNumber s count)) s (done (toldState s count) [])

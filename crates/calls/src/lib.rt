@@ -1,16 +1,18 @@
 // Four calls on a link: it is opened, its sent count is told, its wake and its link line are read.
 ghost use mathlib.Core.Path.{_≡_};
-ghost use Rattle.events.specs.Log.{at, logged};
+ghost use mathlib.Core.List.{[]};
+ghost use Rattle.events.specs.Log.{Appends};
 ghost use Rattle.retire.specs.Retire.{only};
 ghost use Rattle.events.specs.Numbers.{purposeCurrent};
 ghost use Rattle.events.specs.Events.{Bind, Prompt};
 ghost use Rattle.time.specs.Time.{at as atOf};
 ghost use Rattle.calls.specs.Blank.{noLadder, noFinal, noRepeats, noEpoch, noCurrent, noDrain, noAttempt, noPendI, noPendR, idle as idleOf, noCandidates};
 ghost use Rattle.calls.specs.Open.{whenever as wheneverOf, newMemory, firstEpoch, alone as aloneOf, freshState, blankState, installOut, openOf};
-ghost use Rattle.calls.specs.Answer.{Opens};
+ghost use Rattle.answer.specs.Answers.{Answers};
 ghost use Rattle.calls.specs.Told.{belowHeld, toldNumber, toldState, toldOf};
 ghost use Rattle.calls.specs.Read.{wokeOf, kindShown, quietTime, statusOf};
 ghost use Rattle.calls.specs.Exact.{OpenExact, ToldExact, WakeExact, StatusExact};
+use answer::Answer;
 use candidates::Candidates;
 use cycle::Attempt;
 use cycle::Cycle;
@@ -25,29 +27,13 @@ use epoch::MayEpoch;
 use epoch::MayLadder;
 use ladder::Ladder;
 use ladder::Schedule;
+use refusal::Refused;
 use settings::Config;
 use state::Bit;
 use state::Memory;
 use state::Profile;
 use state::State;
 use time::When;
-
-// What `open` answers: the refusal's number, 0 where there is none, with the check's place in 1; the
-// state, and how many events the log has.
-#[repr(C)]
-pub struct Opened {
-    pub number: u8,
-    pub place: u8,
-    pub state: State,
-    pub len: usize,
-}
-
-// What a told sent count answers.
-#[repr(C)]
-pub struct Counted {
-    pub number: u8,
-    pub state: State,
-}
 
 // What `wake` answers.
 #[repr(C)]
@@ -353,7 +339,7 @@ fn blank() -> State
 
 // With a lease, frames for its index come to the current epoch: purpose 2.
 fn bind(ep: Epoch, log: &mut [u64; 768], len: usize) -> usize
-    ensures { λ r. ⌜ at r (now (log .exit)) ≡ logged (at len (now (log .entry))) (only (ep .ids .lease .some) (Bind (ep .ids .transport) (ep .ids .lease .index) (atOf (ep .tag)) purposeCurrent)) ⌝ }
+    ensures { λ r. ⌜ Appends (only (ep .ids .lease .some) (Bind (ep .ids .transport) (ep .ids .lease .index) (atOf (ep .tag)) purposeCurrent)) len (now (log .entry)) r (now (log .exit)) ⌝ }
 {
     if ep.ids.lease.some {
         let tag = When {
@@ -368,7 +354,7 @@ fn bind(ep: Epoch, log: &mut [u64; 768], len: usize) -> usize
 
 // A responder speaks first under the new epoch, so that the peer hears that it holds it.
 fn prompt(ep: Epoch, log: &mut [u64; 768], len: usize) -> usize
-    ensures { λ r. ⌜ at r (now (log .exit)) ≡ logged (at len (now (log .entry))) (only (ep .responder) (Prompt (ep .tag))) ⌝ }
+    ensures { λ r. ⌜ Appends (only (ep .responder) (Prompt (ep .tag))) len (now (log .entry)) r (now (log .exit)) ⌝ }
 {
     if ep.responder {
         events::prompt(log, len, ep.tag)
@@ -379,7 +365,7 @@ fn prompt(ep: Epoch, log: &mut [u64; 768], len: usize) -> usize
 
 // What `install` tells. Evidence 5 is First: the epoch of the link's first handshake.
 fn install(ep: Epoch, workers: bool, log: &mut [u64; 768], len: usize) -> usize
-    ensures { λ r. ⌜ at r (now (log .exit)) ≡ logged (at len (now (log .entry))) (installOut ep workers) ⌝ }
+    ensures { λ r. ⌜ Appends (installOut ep workers) len (now (log .entry)) r (now (log .exit)) ⌝ }
 {
     let a = bind(ep, log, len);
     let b = retire::delegate(ep, workers, log, a);
@@ -398,30 +384,20 @@ pub fn open(
     spread: i32,
     time: u64,
     log: &mut [u64; 768],
-) -> Opened
-    ensures open { λ r. ⌜ Opens (openOf cfg p responder transport lease workers spread time) r (now (log .entry)) (now (log .exit)) ⌝ }
+) -> Answer
+    ensures open { λ r. ⌜ Answers (openOf cfg p responder transport lease workers spread time) r (now (log .entry)) (now (log .exit)) ⌝ }
     ensures exact { λ r. ⌜ OpenExact cfg p spread (openOf cfg p responder transport lease workers spread time) ⌝ }
 {
     let _n = lengths::words(log);
     let back = refusal::before_open(cfg, p, spread);
     if back.number != 0 {
         let none = blank();
-        return Opened {
-            number: back.number,
-            place: back.place,
-            state: none,
-            len: 0,
-        };
+        return answer::sent_back(back, none);
     }
     let ep = first_epoch(responder, transport, lease, time);
     let n = install(ep, workers, log, 0);
     let s = fresh(responder, transport, lease, spread, time);
-    Opened {
-        number: back.number,
-        place: back.place,
-        state: s,
-        len: n,
-    }
+    answer::finish(s, n, 0)
 }
 
 // 11: a count below the held one.
@@ -461,22 +437,20 @@ fn put_sent(s: State, count: u64) -> State
 // The current epoch's sent count is told at `time`. Every call has an instant, with which it is
 // logged; this one's answer does not depend on it. A refused call hands back the state that it was
 // given.
-pub fn told(s: State, time: u64, count: u64) -> Counted
-    ensures told { λ r. ⌜ r ≡ toldOf s count ⌝ }
+pub fn told(s: State, time: u64, count: u64) -> Answer
+    ensures told { λ r. ⌜ Answers (toldOf s count) r [] [] ⌝ }
     ensures exact { λ r. ⌜ ToldExact s count (toldOf s count) ⌝ }
 {
     let number = told_back(s, count);
     if number != 0 {
-        return Counted {
+        let back = Refused {
             number: number,
-            state: s,
+            place: 0,
         };
+        return answer::sent_back(back, s);
     }
     let s2 = put_sent(s, count);
-    Counted {
-        number: number,
-        state: s2,
-    }
+    answer::finish(s2, 0, 0)
 }
 
 // The wake: the least instant that a stored deadline, a ladder or a start condition names, or none. It

@@ -2,7 +2,7 @@
 // tests, the start, the offers, and the prompts that can be sealed no more. The state stays.
 ghost use mathlib.Core.Path.{_≡_};
 ghost use mathlib.Core.Bool.{not, _&&_, _||_};
-ghost use Rattle.events.specs.Log.{at, logged};
+ghost use Rattle.events.specs.Log.{Appends, at};
 ghost use Rattle.events.specs.Events.{Teardown};
 ghost use Rattle.events.specs.Withdraw.{given, withdrawn};
 ghost use Rattle.retire.specs.Retire.{only};
@@ -22,7 +22,7 @@ pub struct Tested {
 
 // A teardown is told where its test holds.
 fn torn(stands: bool, why: u64, log: &mut [u64; 768], len: usize) -> usize
-    ensures { λ r. ⌜ at r (now (log .exit)) ≡ logged (at len (now (log .entry))) (only stands (Teardown why)) ⌝ }
+    ensures { λ r. ⌜ Appends (only stands (Teardown why)) len (now (log .entry)) r (now (log .exit)) ⌝ }
 {
     if stands {
         events::teardown(log, len, why)
@@ -46,7 +46,7 @@ fn idle_now(s: State, ended: bool) -> bool
 
 // The teardown tests.
 fn tests(s: State, cfg: Config, ended: bool, log: &mut [u64; 768], len: usize) -> Tested
-    ensures { λ r. ⌜ (at (r .len) (now (log .exit)) ≡ logged (at len (now (log .entry))) (testsOut s cfg ended)) × (r .ended ≡ endsNow s cfg ended) ⌝ }
+    ensures { λ r. ⌜ (Appends (testsOut s cfg ended) len (now (log .entry)) (r .len) (now (log .exit))) × (r .ended ≡ endsNow s cfg ended) ⌝ }
 {
     let idle = idle_now(s, ended);
     let spent = wake::exhausted(s, cfg);
@@ -60,7 +60,7 @@ fn tests(s: State, cfg: Config, ended: bool, log: &mut [u64; 768], len: usize) -
 
 // A start is told while one is called for: the caller answers it with a start reply.
 fn start(s: State, g: Given, log: &mut [u64; 768], len: usize) -> usize
-    ensures { λ r. ⌜ at r (now (log .exit)) ≡ logged (at len (now (log .entry))) (startOut s g) ⌝ }
+    ensures { λ r. ⌜ Appends (startOut s g) len (now (log .entry)) r (now (log .exit)) ⌝ }
 {
     if start::called_for(s, g.cfg, g.profile, g.now) {
         let k = start::kind(s, g.cfg, g.profile, g.now);

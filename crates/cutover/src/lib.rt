@@ -4,7 +4,7 @@ ghost use mathlib.Core.Bool.{Bool};
 ghost use mathlib.Core.List.{[], _∷_, _++_};
 ghost use Rattle.time.specs.Pick.{pick};
 ghost use Rattle.time.specs.Time.{at as whenAt};
-ghost use Rattle.events.specs.Log.{at, logged};
+ghost use Rattle.events.specs.Log.{Appends};
 ghost use Rattle.cutover.specs.Cutover.{isFrame, isDelay, prunes as prunesOf, pruned, demoted, givenUp, spent as spentOf, keptFin, heardNow, adopted, remembered, announced, heardFrame, cutoverOf};
 ghost use Rattle.params.specs.Params.{elicitMade};
 ghost use Rattle.ladder.specs.Ladder.{anew, nextAtOf};
@@ -86,7 +86,7 @@ fn demote(old: Epoch, restart: bool, evidence: u64, cfg: Config, time: u64) -> D
 
 // The open drain is retired first, the old epoch after a restart.
 fn give_up(d: Drain, old: Epoch, restart: bool, log: &mut [u64; 768], len: usize) -> usize
-    ensures { λ r. ⌜ at r (now (log .exit)) ≡ logged (at len (now (log .entry))) (givenUp d old restart) ⌝ }
+    ensures { λ r. ⌜ Appends (givenUp d old restart) len (now (log .entry)) r (now (log .exit)) ⌝ }
 {
     if d.some {
         let ep = d.ep;
@@ -274,7 +274,7 @@ fn either(a: bool, b: bool) -> bool
 
 // The peer's new startup epoch, where it restarted and told one.
 fn restarted(restart: bool, peer: When, log: &mut [u64; 768], len: usize) -> usize
-    ensures { λ r. ⌜ at r (now (log .exit)) ≡ logged (at len (now (log .entry))) (only (and restart (peer .some)) (PeerRestarted (peer .at))) ⌝ }
+    ensures { λ r. ⌜ Appends (only (and restart (peer .some)) (PeerRestarted (peer .at))) len (now (log .entry)) r (now (log .exit)) ⌝ }
 {
     if restart {
         if peer.some {
@@ -297,7 +297,7 @@ fn announce(
     log: &mut [u64; 768],
     len: usize,
 ) -> usize
-    ensures { λ r. ⌜ at r (now (log .exit)) ≡ logged (at len (now (log .entry))) (announced ep restart peer evidence workers) ⌝ }
+    ensures { λ r. ⌜ Appends (announced ep restart peer evidence workers) len (now (log .entry)) r (now (log .exit)) ⌝ }
 {
     let a = retire::delegate(ep, workers, log, len);
     let b = events::installed(log, a, ep.tag, ep.responder, evidence);
@@ -318,7 +318,7 @@ pub fn cutover(
     log: &mut [u64; 768],
     len: usize,
 ) -> Cut
-    ensures { λ r. ⌜ (r .state ≡ cutoverOf s g spread p evidence k .state) × (at (r .len) (now (log .exit)) ≡ logged (at len (now (log .entry))) (cutoverOf s g spread p evidence k .out)) ⌝ }
+    ensures { λ r. ⌜ (r .state ≡ cutoverOf s g spread p evidence k .state) × (Appends (cutoverOf s g spread p evidence k .out) len (now (log .entry)) (r .len) (now (log .exit))) ⌝ }
 {
     let old = s.cur.ep;
     let open = s.drain;

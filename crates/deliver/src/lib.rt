@@ -3,7 +3,7 @@ ghost use mathlib.Core.Path.{_≡_};
 ghost use Prim.Native.Nat.{_+_, _≤_};
 ghost use lib.ListN.{length};
 ghost use lib.Seq.{paste};
-ghost use Rattle.events.specs.Log.{at, logged};
+ghost use Rattle.events.specs.Log.{Appends};
 ghost use Rattle.deliver.specs.Deliver.{reaches as reachesOf, deliverOut, deliverInto};
 
 // The source's first `n` bytes go to the target from `body` on.
@@ -47,7 +47,7 @@ pub fn deliver(
     log: &mut [u64; 768],
     len: usize,
 ) -> usize
-    ensures { λ r. ⌜ (now (target .exit) ≡ deliverInto body n floor (now (source .entry)) (now (target .entry))) × (at r (now (log .exit)) ≡ logged (at len (now (log .entry))) (deliverOut slot tag body n floor (now (source .entry)) (now (target .entry)))) ⌝ }
+    ensures { λ r. ⌜ (now (target .exit) ≡ deliverInto body n floor (now (source .entry)) (now (target .entry))) × (Appends (deliverOut slot tag body n floor (now (source .entry)) (now (target .entry))) len (now (log .entry)) r (now (log .exit))) ⌝ }
 {
     if reaches(body, n, floor, source.len(), target.len()) {
         copy(source, target, body, n);

@@ -35,6 +35,11 @@ abbrev pub logged : Log → List Event → Log
 logged v [] = v
 logged v (e ∷ es) = logged (pushed v e) es
 
+-- what a function promises that tells the events `out`: of `len` events in the words ws it makes `n` in
+-- ws′, those of `out` behind the others, in order and as far as there is room
+abbrev pub Appends : List Event → ℕ → List ℕ → ℕ → List ℕ → Type 0
+Appends out len ws n ws′ = at n ws′ ≡ logged (at len ws) out
+
 -- the eight words of place i
 abbrev pub placeOf : List ℕ → ℕ → List ℕ
 placeOf ws i =

@@ -9,7 +9,7 @@ ghost use mathlib.Core.List.{List, [], _∷_};
 ghost use Prim.Native.Nat.{_<_};
 ghost use Rattle.events.specs.Numbers.{bit as bitOf};
 ghost use Rattle.events.specs.Events.{Send, Prompt, Deliver, Bind, Unbind, Delegate, Revoke, Release, Installed, Retired, Reverted, PeerRestarted, Rekeyed, Reject, Abandoned, Teardown, Mark, Start, Ended};
-ghost use Rattle.events.specs.Log.{at, stored, logged, listOf, placeOf, takenOf};
+ghost use Rattle.events.specs.Log.{Appends, stored, listOf, placeOf, takenOf, at};
 ghost use Rattle.events.specs.Queries.{wordOf, wordsOffer, offeredIn};
 ghost use Rattle.events.specs.Withdraw.{given, names as namesOf, sealable as sealableOf, wordsStay, sifted, withdrawn};
 use time::When;
@@ -85,21 +85,21 @@ fn add(
 
 // A handshake message, on the established route without fallback.
 pub fn send(log: &mut [u64; 768], len: usize, msg: u64, kind: u64) -> usize
-    ensures { λ r. ⌜ at r (now (log .exit)) ≡ logged (at len (now (log .entry))) (Send msg kind ∷ []) ⌝ }
+    ensures { λ r. ⌜ Appends (Send msg kind ∷ []) len (now (log .entry)) r (now (log .exit)) ⌝ }
 {
     add(log, len, 0, msg, kind, 0, 0, 0, 0)
 }
 
 // A frame to seal under an epoch and send.
 pub fn prompt(log: &mut [u64; 768], len: usize, tag: u64) -> usize
-    ensures { λ r. ⌜ at r (now (log .exit)) ≡ logged (at len (now (log .entry))) (Prompt tag ∷ []) ⌝ }
+    ensures { λ r. ⌜ Appends (Prompt tag ∷ []) len (now (log .entry)) r (now (log .exit)) ⌝ }
 {
     add(log, len, 1, tag, 0, 0, 0, 0, 0)
 }
 
 // The plaintext from `start` up to `end` of the frame's buffer.
 pub fn deliver(log: &mut [u64; 768], len: usize, slot: u64, tag: u64, start: u64, end: u64) -> usize
-    ensures { λ r. ⌜ at r (now (log .exit)) ≡ logged (at len (now (log .entry))) (Deliver slot tag start end ∷ []) ⌝ }
+    ensures { λ r. ⌜ Appends (Deliver slot tag start end ∷ []) len (now (log .entry)) r (now (log .exit)) ⌝ }
 {
     add(log, len, 2, slot, tag, start, end, 0, 0)
 }
@@ -113,7 +113,7 @@ pub fn bind(
     tag: When,
     purpose: u64,
 ) -> usize
-    ensures { λ r. ⌜ at r (now (log .exit)) ≡ logged (at len (now (log .entry))) (Bind transport index tag purpose ∷ []) ⌝ }
+    ensures { λ r. ⌜ Appends (Bind transport index tag purpose ∷ []) len (now (log .entry)) r (now (log .exit)) ⌝ }
 {
     add(
         log,
@@ -130,7 +130,7 @@ pub fn bind(
 
 // The binding of an index on a transport is removed.
 pub fn unbind(log: &mut [u64; 768], len: usize, transport: u64, index: u32) -> usize
-    ensures { λ r. ⌜ at r (now (log .exit)) ≡ logged (at len (now (log .entry))) (Unbind transport index ∷ []) ⌝ }
+    ensures { λ r. ⌜ Appends (Unbind transport index ∷ []) len (now (log .entry)) r (now (log .exit)) ⌝ }
 {
     add(log, len, 4, transport, index as u64, 0, 0, 0, 0)
 }
@@ -145,7 +145,7 @@ pub fn delegate(
     session: u64,
     floor: When,
 ) -> usize
-    ensures { λ r. ⌜ at r (now (log .exit)) ≡ logged (at len (now (log .entry))) (Delegate tag transport index session floor ∷ []) ⌝ }
+    ensures { λ r. ⌜ Appends (Delegate tag transport index session floor ∷ []) len (now (log .entry)) r (now (log .exit)) ⌝ }
 {
     add(
         log,
@@ -162,14 +162,14 @@ pub fn delegate(
 
 // The worker's copy is withdrawn.
 pub fn revoke(log: &mut [u64; 768], len: usize, tag: u64, transport: u64, index: u32) -> usize
-    ensures { λ r. ⌜ at r (now (log .exit)) ≡ logged (at len (now (log .entry))) (Revoke tag transport index ∷ []) ⌝ }
+    ensures { λ r. ⌜ Appends (Revoke tag transport index ∷ []) len (now (log .entry)) r (now (log .exit)) ⌝ }
 {
     add(log, len, 6, tag, transport, index as u64, 0, 0, 0)
 }
 
 // A lease's index goes back to the allocator.
 pub fn release(log: &mut [u64; 768], len: usize, index: u32) -> usize
-    ensures { λ r. ⌜ at r (now (log .exit)) ≡ logged (at len (now (log .entry))) (Release index ∷ []) ⌝ }
+    ensures { λ r. ⌜ Appends (Release index ∷ []) len (now (log .entry)) r (now (log .exit)) ⌝ }
 {
     add(log, len, 7, index as u64, 0, 0, 0, 0, 0)
 }
@@ -182,77 +182,77 @@ pub fn installed(
     responder: bool,
     evidence: u64,
 ) -> usize
-    ensures { λ r. ⌜ at r (now (log .exit)) ≡ logged (at len (now (log .entry))) (Installed tag responder evidence ∷ []) ⌝ }
+    ensures { λ r. ⌜ Appends (Installed tag responder evidence ∷ []) len (now (log .entry)) r (now (log .exit)) ⌝ }
 {
     add(log, len, 8, tag, bit(responder), evidence, 0, 0, 0)
 }
 
 // An epoch's keys were discarded.
 pub fn retired(log: &mut [u64; 768], len: usize, tag: u64) -> usize
-    ensures { λ r. ⌜ at r (now (log .exit)) ≡ logged (at len (now (log .entry))) (Retired tag ∷ []) ⌝ }
+    ensures { λ r. ⌜ Appends (Retired tag ∷ []) len (now (log .entry)) r (now (log .exit)) ⌝ }
 {
     add(log, len, 9, tag, 0, 0, 0, 0, 0)
 }
 
 // An assumed epoch went back to pending.
 pub fn reverted(log: &mut [u64; 768], len: usize, tag: u64) -> usize
-    ensures { λ r. ⌜ at r (now (log .exit)) ≡ logged (at len (now (log .entry))) (Reverted tag ∷ []) ⌝ }
+    ensures { λ r. ⌜ Appends (Reverted tag ∷ []) len (now (log .entry)) r (now (log .exit)) ⌝ }
 {
     add(log, len, 10, tag, 0, 0, 0, 0, 0)
 }
 
 // The peer restarted with a new startup epoch.
 pub fn peer_restarted(log: &mut [u64; 768], len: usize, epoch: u64) -> usize
-    ensures { λ r. ⌜ at r (now (log .exit)) ≡ logged (at len (now (log .entry))) (PeerRestarted epoch ∷ []) ⌝ }
+    ensures { λ r. ⌜ Appends (PeerRestarted epoch ∷ []) len (now (log .entry)) r (now (log .exit)) ⌝ }
 {
     add(log, len, 11, epoch, 0, 0, 0, 0, 0)
 }
 
 // A cutover happened.
 pub fn rekeyed(log: &mut [u64; 768], len: usize, responder: bool) -> usize
-    ensures { λ r. ⌜ at r (now (log .exit)) ≡ logged (at len (now (log .entry))) (Rekeyed responder ∷ []) ⌝ }
+    ensures { λ r. ⌜ Appends (Rekeyed responder ∷ []) len (now (log .entry)) r (now (log .exit)) ⌝ }
 {
     add(log, len, 12, bit(responder), 0, 0, 0, 0, 0)
 }
 
 // An input changed nothing, or only what its row names.
 pub fn reject(log: &mut [u64; 768], len: usize, reason: u64) -> usize
-    ensures { λ r. ⌜ at r (now (log .exit)) ≡ logged (at len (now (log .entry))) (Reject reason ∷ []) ⌝ }
+    ensures { λ r. ⌜ Appends (Reject reason ∷ []) len (now (log .entry)) r (now (log .exit)) ⌝ }
 {
     add(log, len, 14, reason, 0, 0, 0, 0, 0)
 }
 
 // An attempt or a held epoch was given up.
 pub fn abandoned(log: &mut [u64; 768], len: usize, cause: u64) -> usize
-    ensures { λ r. ⌜ at r (now (log .exit)) ≡ logged (at len (now (log .entry))) (Abandoned cause ∷ []) ⌝ }
+    ensures { λ r. ⌜ Appends (Abandoned cause ∷ []) len (now (log .entry)) r (now (log .exit)) ⌝ }
 {
     add(log, len, 15, cause, 0, 0, 0, 0, 0)
 }
 
 // The machine is to be closed.
 pub fn teardown(log: &mut [u64; 768], len: usize, why: u64) -> usize
-    ensures { λ r. ⌜ at r (now (log .exit)) ≡ logged (at len (now (log .entry))) (Teardown why ∷ []) ⌝ }
+    ensures { λ r. ⌜ Appends (Teardown why ∷ []) len (now (log .entry)) r (now (log .exit)) ⌝ }
 {
     add(log, len, 16, why, 0, 0, 0, 0, 0)
 }
 
 // A frame's counter counts as received under an epoch (`mark`).
 pub fn mark(log: &mut [u64; 768], len: usize, tag: u64, counter: u64) -> usize
-    ensures { λ r. ⌜ at r (now (log .exit)) ≡ logged (at len (now (log .entry))) (Mark tag counter ∷ []) ⌝ }
+    ensures { λ r. ⌜ Appends (Mark tag counter ∷ []) len (now (log .entry)) r (now (log .exit)) ⌝ }
 {
     add(log, len, 17, tag, counter, 0, 0, 0, 0)
 }
 
 // A handshake is to be started.
 pub fn start(log: &mut [u64; 768], len: usize, kind: u64) -> usize
-    ensures { λ r. ⌜ at r (now (log .exit)) ≡ logged (at len (now (log .entry))) (Start kind ∷ []) ⌝ }
+    ensures { λ r. ⌜ Appends (Start kind ∷ []) len (now (log .entry)) r (now (log .exit)) ⌝ }
 {
     add(log, len, 18, kind, 0, 0, 0, 0, 0)
 }
 
 // A responder pending ended, and the msg1 that armed it enters the replay record (`PendR::end`).
 pub fn ended(log: &mut [u64; 768], len: usize, tag: u64) -> usize
-    ensures { λ r. ⌜ at r (now (log .exit)) ≡ logged (at len (now (log .entry))) (Ended tag ∷ []) ⌝ }
+    ensures { λ r. ⌜ Appends (Ended tag ∷ []) len (now (log .entry)) r (now (log .exit)) ⌝ }
 {
     add(log, len, 19, tag, 0, 0, 0, 0, 0)
 }

@@ -22,7 +22,8 @@ use Rattle.refusal.specs.Sound.{Within, EpochSound, Sound, sound, sounding}
 use Rattle.cutover.specs.declared.Pend.{Pend}
 use Rattle.frame.specs.declared.FrameProof.{FrameProof}
 use Rattle.frame.specs.Frame.{FrameStep, pendingTag, slotTag, frameBack, putK, pendOf, pendingFrame, currentFrame, previousFrame, slotFrame, frameOf}
-use Rattle.frames.specs.Frames.{frameRefused, givenOf, frameAnswer}
+use Rattle.answer.specs.Laws.{by-test as outcome·by-test}
+use Rattle.frames.specs.Frames.{frameRefused, givenOf, heard, frameAnswer}
 use Rattle.frames.specs.Laws.{frame-refused}
 use Rattle.sound.specs.Cutover.{cut-sound}
 use Rattle.early.specs.Early.{Early}
@@ -153,17 +154,15 @@ module _ (s : State) (cfg : Config) (profile : Profile) (time : ℕ) (workers : 
   pub frame-kept : Sound (frameAnswer s cfg profile time workers spread p body source target .state)
   unfolding frameAnswer
   frame-kept =
-      by-test Sound (eqb (frameRefused s cfg profile spread (p .slot) (p .tag) .number) 0) (frameOf s (givenOf cfg profile time workers) spread p body source target .state) s
+      outcome·by-test (frameRefused s cfg profile spread (p .slot) (p .tag)) s (heard (frameOf s (givenOf cfg profile time workers) spread p body source target)) (λ a. Sound (a .state)) o
       (λ e. frame-sound s (givenOf cfg profile time workers) spread p body source target (taken-held s cfg profile spread (p .slot) (p .tag) e) o)
-      (λ e. o)
 
   -- and at an instant that is not after t it moves no start past t
   pub frame-ages : (t : ℕ) → time ≤ t → Early s t → Early (frameAnswer s cfg profile time workers spread p body source target .state) t
   unfolding frameAnswer givenOf
   frame-ages t n y =
-      by-test (λ r. Early r t) (eqb (frameRefused s cfg profile spread (p .slot) (p .tag) .number) 0) (frameOf s (givenOf cfg profile time workers) spread p body source target .state) s
+      outcome·by-test (frameRefused s cfg profile spread (p .slot) (p .tag)) s (heard (frameOf s (givenOf cfg profile time workers) spread p body source target)) (λ a. Early (a .state) t) y
       (λ e. frame-early s (givenOf cfg profile time workers) spread p body source target (taken-held s cfg profile spread (p .slot) (p .tag) e) o t n y)
-      (λ e. y)
 
 pub frame-accepted : (s : State) (cfg : Config) (profile : Profile) (time : ℕ) (workers : Bool) (spread : ℤ) (p : FrameProof) (body : ℕ) (source target : List ℕ) → stateBack s ≡ 0 → stateBack (frameAnswer s cfg profile time workers spread p body source target .state) ≡ 0
 frame-accepted s cfg profile time workers spread p body source target e =

@@ -3,7 +3,7 @@
 use Prim.Native.Nat.{ℕ}
 use mathlib.Core.Bool.{Bool, true, false}
 use mathlib.Core.Logic.{_↔_, inl, inr, Iff·trans}
-use mathlib.Core.Path.{_≡_, refl}
+use mathlib.Core.Path.{_≡_, refl, sym, subst}
 use mathlib.Core.List.{List, [], _∷_}
 use native.Mathlib.Omega.{arith}
 use lib.IntN.{ℤ}
@@ -16,9 +16,11 @@ use Rattle.refusal.specs.First.{rising}
 use Rattle.exact.specs.Reads.{reads-flag, reads-same, reads-not}
 use Rattle.exact.specs.Words.{GivenOk, SpreadOk, SpreadOut, reads-spread}
 use Rattle.exact.specs.Numbers.{GivenNumbers, StateNumbers, LinkOk, Placed, Linked, anyPlace, above-pick, here, past, and-then, linked}
+use Rattle.answer.specs.Outcome.{Outcome, refusedOf, outcomeBy}
+use Rattle.answer.specs.Laws.{by-refused}
 use Rattle.frame.specs.declared.FrameProof.{FrameProof}
-use Rattle.frame.specs.Frame.{slotTag}
-use Rattle.frames.specs.Frames.{slotEmpty, otherTag, heardTests, frameRefused, FrameAnswer, frameAnswer}
+use Rattle.frame.specs.Frame.{slotTag, frameOf}
+use Rattle.frames.specs.Frames.{slotEmpty, otherTag, heardTests, frameRefused, givenOf, heard, frameAnswer, frameTarget}
 use Rattle.frames.specs.Laws.{frame-back-leaves}
 
 -- 1 to 9 pass
@@ -30,7 +32,7 @@ pub record FrameOk (s : State) (cfg : Config) (profile : Profile) (spread : ℤ)
   -- and its tag is the frame's
   pub tag : slotTag s (p .slot) .at ≡ p .tag
 
-pub record FrameExact (s : State) (cfg : Config) (profile : Profile) (spread : ℤ) (p : FrameProof) (target : List ℕ) (a : FrameAnswer) : Type 0 where
+pub record FrameExact (s : State) (cfg : Config) (profile : Profile) (spread : ℤ) (p : FrameProof) (target : List ℕ) (a : Outcome) (after : List ℕ) : Type 0 where
   pub accepted : (a .number ≡ 0) ↔ FrameOk s cfg profile spread p
   -- 1 and 2
   pub given : GivenNumbers (a .number) cfg profile
@@ -44,7 +46,7 @@ pub record FrameExact (s : State) (cfg : Config) (profile : Profile) (spread : �
   pub tag : (a .number ≡ 9) ↔ (LinkOk s cfg profile × SpreadOk (cfg .jitter) spread × (slotTag s (p .slot) .some ≡ true) × (slotTag s (p .slot) .at ≡ p .tag → ⊥))
   pub place : Placed (a .number) (a .place) cfg
   -- "state and buffers remain", and no event is told
-  pub back : (a .number ≡ 0 → ⊥) → (a .state ≡ s) × (a .target ≡ target) × (a .out ≡ [])
+  pub back : (a .number ≡ 0 → ⊥) → (a .state ≡ s) × (after ≡ target) × (a .out ≡ [])
 
 module _ (s : State) (cfg : Config) (profile : Profile) (spread : ℤ) (slot tag : ℕ) where
   -- 7 to 9
@@ -97,12 +99,20 @@ module _ (s : State) (cfg : Config) (profile : Profile) (spread : ℤ) (slot tag
       and-then (past-seven 0 (λ e. omega arith))
       (and-then (past-eight 0 (λ e. omega arith)) (past (reads-not (reads-same (slotTag s slot .at) tag)) 9 0 0 (λ e. omega arith)))
 
+  -- the same of a frame's outcome
+  told : (o : Outcome) → o .number ≡ 0 → o .place ≡ 0 → Linked (refusedOf (outcomeBy (frameRefused s cfg profile spread slot tag) s o)) (first own .number) s cfg profile
+  told o n q =
+      subst (λ r. Linked r (first own .number) s cfg profile)
+      (sym (by-refused (frameRefused s cfg profile spread slot tag) s o n q (λ z. in-turn .place .none (λ e. omega arith))))
+      in-turn
+
 pub frame-exact :
     (s : State) (cfg : Config) (profile : Profile) (time : ℕ) (workers : Bool) (spread : ℤ) (p : FrameProof) (body : ℕ) (source target : List ℕ)
-    → FrameExact s cfg profile spread p target (frameAnswer s cfg profile time workers spread p body source target)
+    → FrameExact s cfg profile spread p target (frameAnswer s cfg profile time workers spread p body source target) (frameTarget s cfg profile time workers spread p body source target)
 unfolding frameAnswer
 frame-exact s cfg profile time workers spread p body source target =
-    let l = in-turn s cfg profile spread (p .slot) (p .tag) in
+    let f = heard (frameOf s (givenOf cfg profile time workers) spread p body source target) in
+    let l = told s cfg profile spread (p .slot) (p .tag) f refl refl in
     record {
       accepted =
           Iff·trans (and-then (l .later 0 (inl refl)) (is-none s cfg profile spread (p .slot) (p .tag))) (

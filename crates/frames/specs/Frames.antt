@@ -9,9 +9,9 @@ use Rattle.settings.specs.declared.Config.{Config}
 use Rattle.state.specs.declared.State.{State}
 use Rattle.state.specs.declared.Profile.{Profile}
 use Rattle.state.specs.declared.Given.{Given}
-use Rattle.events.specs.Events.{Event}
 use Rattle.refusal.specs.declared.Refused.{Refused}
 use Rattle.refusal.specs.Refusal.{Test, first, by, frameTests}
+use Rattle.answer.specs.Outcome.{Outcome, done, outcomeBy}
 use Rattle.frame.specs.declared.FrameProof.{FrameProof}
 use Rattle.frame.specs.Frame.{FrameStep, slotTag, frameOf}
 
@@ -35,27 +35,20 @@ frameRefused s cfg profile spread slot tag = first (heardTests s cfg profile spr
 unfoldable pub givenOf : Config → Profile → ℕ → Bool → Given
 givenOf cfg profile time workers = record { cfg = cfg; profile = profile; now = time; workers = workers; extra = 0 }
 
-pub record FrameAnswer : Type 0 where
-  pub number : ℕ
-  pub place : ℕ
-  pub state : State
-  pub target : List ℕ
-  pub out : List Event
-
--- "The answer is the number alone, with the check's place in 1; state and buffers remain."
-abbrev pub answeredBy : Refused → State → List ℕ → FrameStep → FrameAnswer
-answeredBy r s target f =
-    record {
-      number = r .number;
-      place = r .place;
-      state = pick (eqb (r .number) 0) (f .state) s;
-      target = pick (eqb (r .number) 0) (f .target) target;
-      out = pick (eqb (r .number) 0) (f .out) [];
-    }
+-- what an accepted frame leaves and tells
+abbrev pub heard : FrameStep → Outcome
+heard f = done (f .state) (f .out)
 
 -- the whole call: state, settings, profile, instant, worker flag, spread, proof, where the body
 -- starts, the source's bytes and the target's
-unfoldable pub frameAnswer : State → Config → Profile → ℕ → Bool → ℤ → FrameProof → ℕ → List ℕ → List ℕ → FrameAnswer
+unfoldable pub frameAnswer : State → Config → Profile → ℕ → Bool → ℤ → FrameProof → ℕ → List ℕ → List ℕ → Outcome
 frameAnswer s cfg profile time workers spread p body source target =
-    answeredBy (frameRefused s cfg profile spread (p .slot) (p .tag)) s target
-    (frameOf s (givenOf cfg profile time workers) spread p body source target)
+    outcomeBy (frameRefused s cfg profile spread (p .slot) (p .tag)) s
+    (heard (frameOf s (givenOf cfg profile time workers) spread p body source target))
+
+-- "state and buffers remain": the target's bytes after the call
+unfoldable pub frameTarget : State → Config → Profile → ℕ → Bool → ℤ → FrameProof → ℕ → List ℕ → List ℕ → List ℕ
+frameTarget s cfg profile time workers spread p body source target =
+    pick (eqb (frameRefused s cfg profile spread (p .slot) (p .tag) .number) 0)
+    (frameOf s (givenOf cfg profile time workers) spread p body source target .target)
+    target

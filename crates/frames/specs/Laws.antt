@@ -17,10 +17,12 @@ use Rattle.events.specs.Events.{Event}
 use Rattle.refusal.specs.declared.Refused.{Refused}
 use Rattle.refusal.specs.Refusal.{Test, first, by, numbered, givenTests, stateTests, frameTests, beforeFrame}
 use Rattle.refusal.specs.First.{rising, backAt, backBelow, exactly, first-append}
+use Rattle.answer.specs.Outcome.{Outcome}
+use Rattle.answer.specs.Laws.{by-taken, by-nonzero, by-either}
 use Rattle.frame.specs.declared.FrameProof.{FrameProof}
 use Rattle.frame.specs.Frame.{slotTag, frameBack, frameOf}
 use Rattle.frame.specs.Most.{frame-most}
-use Rattle.frames.specs.Frames.{slotEmpty, otherTag, heardTests, frameRefused, givenOf, frameAnswer}
+use Rattle.frames.specs.Frames.{slotEmpty, otherTag, heardTests, frameRefused, givenOf, heard, frameAnswer, frameTarget}
 
 -- ---- the refusals
 
@@ -47,24 +49,21 @@ module _ (s : State) (cfg : Config) (profile : Profile) (time : ℕ) (workers : 
   -- "No answer has more than 96": a frame has 16 at most
   pub frame-few : length (frameAnswer s cfg profile time workers spread p body source target .out) ≤ 16
   unfolding frameAnswer
-  frame-few = under (eqb (frameRefused s cfg profile spread (p .slot) (p .tag) .number) 0)
-    where
-      under : (b : Bool) → length (pick b (frameOf s (givenOf cfg profile time workers) spread p body source target .out) []) ≤ 16
-      under true = frame-most s (givenOf cfg profile time workers) spread p body source target
-      under false = omega arith
+  frame-few =
+      by-either (frameRefused s cfg profile spread (p .slot) (p .tag)) s (heard (frameOf s (givenOf cfg profile time workers) spread p body source target)) (λ o. length (o .out) ≤ 16) (omega arith)
+      (frame-most s (givenOf cfg profile time workers) spread p body source target)
 
   -- a frame that is sent back changes nothing and tells nothing
   pub frame-back-leaves :
       (frameAnswer s cfg profile time workers spread p body source target .number ≡ 0 → ⊥)
       → (frameAnswer s cfg profile time workers spread p body source target .state ≡ s)
-      × ((frameAnswer s cfg profile time workers spread p body source target .target ≡ target)
+      × ((frameTarget s cfg profile time workers spread p body source target ≡ target)
       × (frameAnswer s cfg profile time workers spread p body source target .out ≡ []))
-  unfolding frameAnswer
+  unfolding frameAnswer frameTarget
   frame-back-leaves h =
-      let e = ne-eqb (frameRefused s cfg profile spread (p .slot) (p .tag) .number) 0 h in (
-        ap (λ b. pick b (frameOf s (givenOf cfg profile time workers) spread p body source target .state) s) e,
-        (
-          ap (λ b. pick b (frameOf s (givenOf cfg profile time workers) spread p body source target .target) target) e,
-          ap (λ b. pick b (frameOf s (givenOf cfg profile time workers) spread p body source target .out) []) e,
-        ),
+      let r = frameRefused s cfg profile spread (p .slot) (p .tag) in
+      let f = frameOf s (givenOf cfg profile time workers) spread p body source target in
+      let e = by-nonzero r s (heard f) refl h in (
+        ap (λ (o : Outcome). o .state) e,
+        (ap (λ b. pick b (f .target) target) (ne-eqb (r .number) 0 (λ z. h (ap (λ (o : Outcome). o .number) (by-taken r s (heard f) z)))), ap (λ (o : Outcome). o .out) e),
       )

@@ -1,24 +1,15 @@
 // The call of a frame: a frame from the peer that authenticated is taken, or sent back by number.
 ghost use mathlib.Core.Path.{_≡_};
 ghost use Rattle.frames.specs.Exact.{FrameExact};
-ghost use Rattle.frames.specs.Frames.{frameRefused, givenOf, frameAnswer};
-ghost use Rattle.frames.specs.Answer.{Hears};
+ghost use Rattle.answer.specs.Answers.{Answers};
+ghost use Rattle.frames.specs.Frames.{frameRefused, givenOf, frameAnswer, frameTarget};
+use answer::Answer;
 use frame::FrameProof;
 use refusal::Refused;
 use settings::Config;
 use state::Given;
 use state::Profile;
 use state::State;
-
-// What a frame answers: the refusal's number, 0 where there is none, with the check's place in 1;
-// the state, and how many events the log has.
-#[repr(C)]
-pub struct Heard {
-    pub number: u8,
-    pub place: u8,
-    pub state: State,
-    pub len: usize,
-}
 
 // 1 to 7, then 8 and 9.
 fn send_back(s: State, cfg: Config, profile: Profile, spread: i32, slot: u8, tag: u64) -> Refused
@@ -62,27 +53,17 @@ pub fn frame(
     source: &[u8],
     target: &mut [u8],
     log: &mut [u64; 768],
-) -> Heard
-    ensures frame { λ r. ⌜ Hears (frameAnswer s cfg profile time workers spread p body (now (source .entry)) (now (target .entry))) r (now (target .exit)) (now (log .entry)) (now (log .exit)) ⌝ }
-    ensures exact { λ r. ⌜ FrameExact s cfg profile spread p (now (target .entry)) (frameAnswer s cfg profile time workers spread p body (now (source .entry)) (now (target .entry))) ⌝ }
+) -> Answer
+    ensures frame { λ r. ⌜ Answers (frameAnswer s cfg profile time workers spread p body (now (source .entry)) (now (target .entry))) r (now (log .entry)) (now (log .exit)) ⌝ }
+    ensures target { λ r. ⌜ now (target .exit) ≡ frameTarget s cfg profile time workers spread p body (now (source .entry)) (now (target .entry)) ⌝ }
+    ensures exact { λ r. ⌜ FrameExact s cfg profile spread p (now (target .entry)) (frameAnswer s cfg profile time workers spread p body (now (source .entry)) (now (target .entry))) (frameTarget s cfg profile time workers spread p body (now (source .entry)) (now (target .entry))) ⌝ }
 {
     let _n = lengths::words(log);
     let back = send_back(s, cfg, profile, spread, p.slot, p.tag);
     if back.number != 0 {
-        return Heard {
-            number: back.number,
-            place: back.place,
-            state: s,
-            len: 0,
-        };
+        return answer::sent_back(back, s);
     }
     let g = gather(cfg, profile, time, workers);
     let f = frame::frame_accepted(s, g, spread, p, body, source, target, log, 0);
-    let state = f.state;
-    Heard {
-        number: back.number,
-        place: back.place,
-        state: state,
-        len: f.len,
-    }
+    answer::finish(f.state, f.len, 0)
 }

@@ -5,7 +5,7 @@ ghost use mathlib.Core.List.{[]};
 ghost use Rattle.time.specs.Pick.{pick};
 ghost use Rattle.time.specs.Time.{least};
 ghost use Rattle.items.specs.Arrays.{most};
-ghost use Rattle.events.specs.Log.{at, logged};
+ghost use Rattle.events.specs.Log.{Appends};
 ghost use Rattle.turn.specs.Turn.{itemStep};
 ghost use Rattle.pass.specs.Pass.{firstOf, workOf, passOf};
 use state::Given;
@@ -28,7 +28,7 @@ fn step(
     log: &mut [u64; 768],
     len: usize,
 ) -> Ran
-    ensures { λ r. ⌜ (r .state ≡ itemStep s g spread kind key .state) × ((at (r .len) (now (log .exit)) ≡ logged (at len (now (log .entry))) (itemStep s g spread kind key .out)) × (r .ended ≡ itemStep s g spread kind key .ends)) ⌝ }
+    ensures { λ r. ⌜ (r .state ≡ itemStep s g spread kind key .state) × ((Appends (itemStep s g spread kind key .out) len (now (log .entry)) (r .len) (now (log .exit))) × (r .ended ≡ itemStep s g spread kind key .ends)) ⌝ }
 {
     if kind == 1 {
         turn::candidate_due(s, key, g.now, log, len)
@@ -56,7 +56,7 @@ pub fn run(
     len: usize,
     ended: bool,
 ) -> Ran
-    ensures { λ r. ⌜ (r .state ≡ passOf g spread (firstOf (now (kind .entry)) (now (key .entry)) n) (workOf s [] ended) .state) × ((at (r .len) (now (log .exit)) ≡ logged (at len (now (log .entry))) (passOf g spread (firstOf (now (kind .entry)) (now (key .entry)) n) (workOf s [] ended) .out)) × (r .ended ≡ passOf g spread (firstOf (now (kind .entry)) (now (key .entry)) n) (workOf s [] ended) .ended)) ⌝ }
+    ensures { λ r. ⌜ (r .state ≡ passOf g spread (firstOf (now (kind .entry)) (now (key .entry)) n) (workOf s [] ended) .state) × ((Appends (passOf g spread (firstOf (now (kind .entry)) (now (key .entry)) n) (workOf s [] ended) .out) len (now (log .entry)) (r .len) (now (log .exit))) × (r .ended ≡ passOf g spread (firstOf (now (kind .entry)) (now (key .entry)) n) (workOf s [] ended) .ended)) ⌝ }
 {
     let count = bounded(n);
     let mut st = s;

@@ -25,7 +25,9 @@ use Rattle.evidence.specs.Evidence.{EpochStep, blindTo, promptDue, heardFirst, 
 use Rattle.hear.specs.Hear.{HearStep, hearing, heardCurrent, revertOf, assumedHeard, confirmingHeard, heardPrevious}
 use Rattle.frame.specs.declared.FrameProof.{FrameProof}
 use Rattle.frame.specs.Frame.{FrameStep, pendOf, pendingFrame, currentFrame, previousFrame, slotFrame, frameOf}
-use Rattle.frames.specs.Frames.{FrameAnswer, frameRefused, givenOf, frameAnswer}
+use Rattle.answer.specs.Outcome.{Outcome}
+use Rattle.answer.specs.Laws.{by-either}
+use Rattle.frames.specs.Frames.{frameRefused, givenOf, heard, frameAnswer}
 use Rattle.prompts.specs.Stays.{AllStay, none-stay, both-stay, more-stay, current-stays, pending-stays, abandoned-stay, ended-stay, delivered-stay, given-up-stay, announced-stay, prompted-stay}
 
 -- ---- what stays, by the state that is left
@@ -121,17 +123,12 @@ module _ (s : State) (g : Given) (spread : ℤ) (p : FrameProof) (body : ℕ) (s
   frame-of-keeps = more-stay _ _ (Mark _ _) _ refl slot-keeps
 
 module _ (s : State) (cfg : Config) (profile : Profile) (time : ℕ) (workers : Bool) (spread : ℤ) (p : FrameProof) (body : ℕ) (source target : List ℕ) where
-  abbrev answer : FrameAnswer
+  abbrev answer : Outcome
   answer = frameAnswer s cfg profile time workers spread p body source target
 
   -- to withdraw, by the state that a frame leaves, leaves its events as they are
   pub frame-keeps-prompts : sealing (answer .state) (answer .out) ≡ answer .out
   unfolding sealing frameAnswer
-  frame-keeps-prompts = under (eqb (frameRefused s cfg profile spread (p .slot) (p .tag) .number) 0)
-    where
-      f : FrameStep
-      f = frameOf s (givenOf cfg profile time workers) spread p body source target
-
-      under : (b : Bool) → Keeps (pick b (f .state) s) (pick b (f .out) [])
-      under true = frame-of-keeps s (givenOf cfg profile time workers) spread p body source target
-      under false = none-stay _ _
+  frame-keeps-prompts =
+      by-either (frameRefused s cfg profile spread (p .slot) (p .tag)) s (heard (frameOf s (givenOf cfg profile time workers) spread p body source target)) (λ o. Keeps (o .state) (o .out)) (none-stay _ _)
+      (frame-of-keeps s (givenOf cfg profile time workers) spread p body source target)

@@ -14,6 +14,8 @@ use Rattle.state.specs.declared.Profile.{Profile}
 use Rattle.refusal.specs.Refusal.{stateBack}
 use Rattle.refusal.specs.Sound.{Within, Sound, sound, sounding}
 use Rattle.reply.specs.declared.StartReply.{StartReply}
+use Rattle.answer.specs.Outcome.{done}
+use Rattle.answer.specs.Laws.{by-either}
 use Rattle.reply.specs.Reply.{measures, setupFirst, setupSched, attemptSched, attemptOf, memoryAfter, startedOf, takenOf, replyRefused, replyOf}
 use Rattle.sound.specs.Ladders.{doubling-within, first-within}
 use Rattle.early.specs.Early.{Early}
@@ -66,8 +68,8 @@ module _ (s : State) (cfg : Config) (p : Profile) (now : ℕ) (r : StartReply) w
   pub reply-kept : Sound s → Sound (replyOf s cfg p now r .state)
   unfolding replyOf takenOf
   reply-kept o =
-      of-choice Sound (eqb (replyRefused s cfg p now .number) 0) (pick (r .opened) (startedOf s cfg p now r) s) s
-      (of-choice Sound (r .opened) (startedOf s cfg p now r) s (started-sound o) o) o
+      by-either (replyRefused s cfg p now) s (done (pick (r .opened) (startedOf s cfg p now r) s) []) (λ a. Sound (a .state)) o
+      (of-choice Sound (r .opened) (startedOf s cfg p now r) s (started-sound o) o)
 
   pub reply-accepted : stateBack s ≡ 0 → stateBack (replyOf s cfg p now r .state) ≡ 0
   reply-accepted e = sounding (replyOf s cfg p now r .state) (reply-kept (sound s e))
@@ -75,5 +77,5 @@ module _ (s : State) (cfg : Config) (p : Profile) (now : ℕ) (r : StartReply) w
   pub reply-ages : (t : ℕ) → Early s t → Early (replyOf s cfg p now r .state) t
   unfolding replyOf takenOf
   reply-ages t o =
-      of-choice (λ x. Early x t) (eqb (replyRefused s cfg p now .number) 0) (pick (r .opened) (startedOf s cfg p now r) s) s
-      (of-choice (λ x. Early x t) (r .opened) (startedOf s cfg p now r) s (started-early t o) o) o
+      by-either (replyRefused s cfg p now) s (done (pick (r .opened) (startedOf s cfg p now r) s) []) (λ a. Early (a .state) t) o
+      (of-choice (λ x. Early x t) (r .opened) (startedOf s cfg p now r) s (started-early t o) o)

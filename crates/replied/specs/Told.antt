@@ -15,7 +15,9 @@ use Rattle.state.specs.Parts.{putCur}
 use Rattle.refusal.specs.Refusal.{beforeOpen}
 use Rattle.refusal.specs.Sound.{Sound, sound, sounding}
 use Rattle.calls.specs.Blank.{noCurrent, noDrain, idle}
-use Rattle.calls.specs.Open.{newMemory, firstEpoch, alone, freshState, blankState, openOf}
+use Rattle.answer.specs.Outcome.{done}
+use Rattle.answer.specs.Laws.{by-either}
+use Rattle.calls.specs.Open.{newMemory, firstEpoch, alone, freshState, blankState, opened, openOf}
 use Rattle.calls.specs.Told.{putSent, toldNumber, toldState, toldOf}
 use Rattle.calls.specs.Laws.{open-accepted, told-accepted}
 use Rattle.early.specs.Early.{Early}
@@ -30,9 +32,9 @@ module _ (s : State) (count : ℕ) where
   pub told-ages : (t : ℕ) → Early s t → Early (toldOf s count .state) t
   unfolding toldOf toldState
   told-ages t o =
-      of-choice (λ x. Early x t) (eqb (toldNumber s count) 0) (pick (s .cur .some) (putCur s (putEp (s .cur) (putSent (s .cur .ep) count))) s) s
+      by-either (numbered (toldNumber s count)) s (done (pick (s .cur .some) (putCur s (putEp (s .cur) (putSent (s .cur .ep) count))) s) []) (λ a. Early (a .state) t) o
       (of-choice (λ x. Early x t) (s .cur .some) (putCur s (putEp (s .cur) (putSent (s .cur .ep) count))) s
-      (with-cur s t o (putEp (s .cur) (putSent (s .cur .ep) count)) (o .current)) o) o
+      (with-cur s t o (putEp (s .cur) (putSent (s .cur .ep) count)) (o .current)) o)
 
 -- ---- an `open` at an instant that is not after t; a refused one hands back a blank state
 
@@ -65,6 +67,6 @@ module _ (cfg : Config) (p : Profile) (responder : Bool) (transport : ℕ) (leas
       }
 
   pub open-ages : (t : ℕ) → time ≤ t → Early (openOf cfg p responder transport lease workers spread time .state) t
-  unfolding openOf
+  unfolding openOf opened
   open-ages t n =
-      of-choice (λ x. Early x t) (eqb (beforeOpen cfg p spread .number) 0) (freshState responder transport lease spread time) blankState (fresh-early t n) (blank-early t)
+      by-either (beforeOpen cfg p spread) blankState (opened responder transport lease workers spread time) (λ a. Early (a .state) t) (blank-early t) (fresh-early t n)

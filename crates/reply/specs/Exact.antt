@@ -3,22 +3,21 @@
 use Prim.Native.Nat.{ℕ, _≤_, _<_}
 use mathlib.Core.Bool.{true, false, not}
 use mathlib.Core.Logic.{_↔_, _⊎_, inl, inr, Iff·trans}
-use mathlib.Core.Path.{_≡_, refl, ap}
+use mathlib.Core.Path.{_≡_, refl, sym, ap, subst}
 use mathlib.Core.List.{[], _∷_}
 use native.Mathlib.Omega.{arith}
-use borrow.Author.Tests.{ne-eqb}
-use Rattle.time.specs.Pick.{pick}
 use Rattle.settings.specs.declared.Config.{Config}
 use Rattle.state.specs.declared.State.{State}
 use Rattle.state.specs.declared.Profile.{Profile}
 use Rattle.start.specs.Start.{startKind, calledFor}
 use Rattle.refusal.specs.Refusal.{anyOf, first, by, givenTests, stateTests, replyTests}
 use Rattle.refusal.specs.First.{rising}
+use Rattle.answer.specs.Outcome.{Outcome, refusedOf, done, outcomeBy}
+use Rattle.answer.specs.Laws.{by-either, by-refused, by-nonzero}
 use Rattle.exact.specs.Reads.{Reads, reads-flag, reads-less, reads-and, reads-not, reads-as}
 use Rattle.exact.specs.Words.{GivenOk}
 use Rattle.exact.specs.Numbers.{GivenNumbers, StateNumbers, LinkOk, Placed, Linked, anyPlace, and-then, alone-holds, alone-fails, linked}
 use Rattle.reply.specs.declared.StartReply.{StartReply}
-use Rattle.reply.specs.declared.Replied.{Replied}
 use Rattle.reply.specs.Reply.{takenOf, repliedTests, replyRefused, replyOf}
 
 -- "A start is called for while `start_kind` yields at the instant and the sent count is below `hard`"
@@ -42,7 +41,7 @@ pub record ReplyOk (s : State) (cfg : Config) (p : Profile) (now : ℕ) : Type 0
   pub link : LinkOk s cfg p
   pub called : StartCalled s cfg p now
 
-pub record ReplyExact (s : State) (cfg : Config) (p : Profile) (now : ℕ) (a : Replied) : Type 0 where
+pub record ReplyExact (s : State) (cfg : Config) (p : Profile) (now : ℕ) (a : Outcome) : Type 0 where
   pub accepted : (a .number ≡ 0) ↔ ReplyOk s cfg p now
   -- 1 and 2
   pub given : GivenNumbers (a .number) cfg p
@@ -51,6 +50,8 @@ pub record ReplyExact (s : State) (cfg : Config) (p : Profile) (now : ℕ) (a : 
   -- "10. A start reply comes while no start is called for or the sent count has reached `hard`."
   pub called : (a .number ≡ 10) ↔ (LinkOk s cfg p × NotCalled s cfg p now)
   pub place : Placed (a .number) (a .place) cfg
+  -- "Its answer has no event."
+  pub silent : a .out ≡ []
   -- the state remains
   pub back : (a .number ≡ 0 → ⊥) → a .state ≡ s
 
@@ -59,16 +60,26 @@ module _ (s : State) (cfg : Config) (p : Profile) (now : ℕ) where
   unfolding replyRefused repliedTests replyTests givenTests stateTests rising anyPlace anyOf
   in-turn = linked s cfg p (by 10 (not (calledFor s cfg p now)) ∷ []) refl refl
 
+  -- the same of a reply's outcome
+  told : (o : Outcome) → o .number ≡ 0 → o .place ≡ 0 → Linked (refusedOf (outcomeBy (replyRefused s cfg p now) s o)) (first (by 10 (not (calledFor s cfg p now)) ∷ []) .number) s cfg p
+  told o n q =
+      subst (λ r. Linked r (first (by 10 (not (calledFor s cfg p now)) ∷ []) .number) s cfg p)
+      (sym (by-refused (replyRefused s cfg p now) s o n q (λ z. in-turn .place .none (λ e. omega arith))))
+      in-turn
+
   pub reply-exact : (r : StartReply) → ReplyExact s cfg p now (replyOf s cfg p now r)
   unfolding replyOf
   reply-exact r =
+      let o = done (takenOf s cfg p now r) [] in
+      let l = told o refl refl in
       record {
         accepted =
-            Iff·trans (and-then (in-turn .later 0 (inl refl)) (alone-fails (reads-called s cfg p now) 10 (omega arith)))
+            Iff·trans (and-then (l .later 0 (inl refl)) (alone-fails (reads-called s cfg p now) 10 (omega arith)))
             (λ x. record { link = x .0; called = x .1 }, λ o. (o .link, o .called));
-        given = in-turn .given;
-        state = in-turn .state;
-        called = and-then (in-turn .later 10 (inr (omega arith))) (alone-holds (reads-called s cfg p now) 10 (omega arith));
-        place = in-turn .place;
-        back = λ h. ap (λ b. pick b (takenOf s cfg p now r) s) (ne-eqb (replyRefused s cfg p now .number) 0 h);
+        given = l .given;
+        state = l .state;
+        called = and-then (l .later 10 (inr (omega arith))) (alone-holds (reads-called s cfg p now) 10 (omega arith));
+        place = l .place;
+        silent = by-either (replyRefused s cfg p now) s o (λ x. x .out ≡ []) refl refl;
+        back = λ h. ap (λ (x : Outcome). x .state) (by-nonzero (replyRefused s cfg p now) s o refl h);
       }

@@ -18,6 +18,8 @@ use Rattle.start.specs.Start.{silenceInterval, startKind, calledFor}
 use Rattle.refusal.specs.declared.Refused.{Refused}
 use Rattle.refusal.specs.Refusal.{Test, first, by, numbered, givenTests, stateTests, replyTests, beforeReply}
 use Rattle.refusal.specs.First.{rising, backAt, backBelow, exactly, first-append}
+use Rattle.answer.specs.Outcome.{done}
+use Rattle.answer.specs.Laws.{by-either}
 use Rattle.reply.specs.declared.StartReply.{StartReply}
 use Rattle.reply.specs.Reply.{raisesSilence, silenceAfter, startedOf, takenOf, repliedTests, replyRefused, replyOf}
 
@@ -50,12 +52,8 @@ module _ (s : State) (cfg : Config) (p : Profile) (now : ℕ) where
   pub unopened : (r : StartReply) → r .opened ≡ false → replyOf s cfg p now r .state ≡ s
   unfolding replyOf takenOf
   unopened r e =
-      ap (λ b. pick (eqb (replyRefused s cfg p now .number) 0) (pick b (startedOf s cfg p now r) s) s) e
-      ∙ under (eqb (replyRefused s cfg p now .number) 0)
-    where
-      under : (b : Bool) → pick b s s ≡ s
-      under true = refl
-      under false = refl
+      by-either (replyRefused s cfg p now) s (done (pick (r .opened) (startedOf s cfg p now r) s) []) (λ o. o .state ≡ s) refl
+      (ap (λ b. pick b (startedOf s cfg p now r) s) e)
 
 -- an interval that has reached `after` leaves the silence count
 pub silence-kept : (m : Memory) (cfg : Config) (kind : When) → cfg .after ≤ silenceInterval m cfg → silenceAfter m cfg kind ≡ m .silence

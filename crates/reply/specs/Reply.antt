@@ -19,8 +19,8 @@ use Rattle.state.specs.declared.Profile.{Profile}
 use Rattle.start.specs.Start.{silenceInterval, startKind, calledFor}
 use Rattle.refusal.specs.declared.Refused.{Refused}
 use Rattle.refusal.specs.Refusal.{Test, first, by, replyTests}
+use Rattle.answer.specs.Outcome.{Outcome, done, outcomeBy}
 use Rattle.reply.specs.declared.StartReply.{StartReply}
-use Rattle.reply.specs.declared.Replied.{Replied}
 
 -- ---- the attempt's schedule and deadline, by the profile
 
@@ -122,10 +122,6 @@ repliedTests s cfg p now = replyTests s cfg p ++ by 10 (not (calledFor s cfg p n
 unfoldable pub replyRefused : State → Config → Profile → ℕ → Refused
 replyRefused s cfg p now = first (repliedTests s cfg p now)
 
--- a refused call hands back the state that it was given
-abbrev pub repliedBy : Refused → State → State → Replied
-repliedBy r s t = record { number = r .number; place = r .place; state = pick (eqb (r .number) 0) t s }
-
 -- "Its answer has no event."
-unfoldable pub replyOf : State → Config → Profile → ℕ → StartReply → Replied
-replyOf s cfg p now r = repliedBy (replyRefused s cfg p now) s (takenOf s cfg p now r)
+unfoldable pub replyOf : State → Config → Profile → ℕ → StartReply → Outcome
+replyOf s cfg p now r = outcomeBy (replyRefused s cfg p now) s (done (takenOf s cfg p now r) [])

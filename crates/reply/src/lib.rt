@@ -2,10 +2,13 @@
 // (`Rekey::start` of machine.rs, with the silence count of its `poll`).
 ghost use mathlib.Core.Path.{_≡_};
 ghost use Prim.Native.Nat.{_+_};
+ghost use mathlib.Core.List.{[]};
 ghost use Rattle.time.specs.Time.{least};
 ghost use Rattle.params.specs.Params.{valueOr};
+ghost use Rattle.answer.specs.Answers.{Answers};
 ghost use Rattle.reply.specs.Reply.{setupRtt, setupFirst, setupSched, attemptSched, attemptTime, attemptOf, raisesSilence, silenceAfter, memoryAfter, startedOf, takenOf, replyRefused, replyOf};
 ghost use Rattle.reply.specs.Exact.{ReplyExact};
+use answer::Answer;
 use cycle::Attempt;
 use epoch::Index;
 use ladder::Ladder;
@@ -26,15 +29,6 @@ pub struct StartReply {
     pub msg: u64,
     pub transport: u64,
     pub lease: Index,
-}
-
-// What a start reply answers: the refusal's number, 0 where there is none, with the check's place in
-// 1, and the state. It has no event.
-#[repr(C)]
-pub struct Replied {
-    pub number: u8,
-    pub place: u8,
-    pub state: State,
 }
 
 // A number that may be absent, or 0.
@@ -209,23 +203,15 @@ fn send_back(s: State, cfg: Config, profile: Profile, time: u64) -> Refused
     }
 }
 
-// A start reply. A refused call hands back the state that it was given.
-pub fn reply(s: State, cfg: Config, profile: Profile, time: u64, r: StartReply) -> Replied
-    ensures reply { λ a. ⌜ a ≡ replyOf s cfg profile time r ⌝ }
+// A start reply. It has no event; a refused call hands back the state that it was given.
+pub fn reply(s: State, cfg: Config, profile: Profile, time: u64, r: StartReply) -> Answer
+    ensures reply { λ a. ⌜ Answers (replyOf s cfg profile time r) a [] [] ⌝ }
     ensures exact { λ a. ⌜ ReplyExact s cfg profile time (replyOf s cfg profile time r) ⌝ }
 {
     let back = send_back(s, cfg, profile, time);
     if back.number != 0 {
-        return Replied {
-            number: back.number,
-            place: back.place,
-            state: s,
-        };
+        return answer::sent_back(back, s);
     }
     let s2 = taken(s, cfg, profile, time, r);
-    Replied {
-        number: back.number,
-        place: back.place,
-        state: s2,
-    }
+    answer::finish(s2, 0, 0)
 }

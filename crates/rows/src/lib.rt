@@ -5,7 +5,7 @@ ghost use mathlib.Core.Path.{_≡_};
 ghost use mathlib.Core.Bool.{Bool, not};
 ghost use mathlib.Core.List.{[], _∷_, _++_};
 ghost use Prim.Native.Nat.{_+_};
-ghost use Rattle.events.specs.Log.{at, logged};
+ghost use Rattle.events.specs.Log.{Appends};
 ghost use Rattle.time.specs.Pick.{pick};
 ghost use Rattle.time.specs.Time.{least};
 ghost use Rattle.events.specs.Events.{Send, Prompt};
@@ -99,7 +99,7 @@ pub fn grace(m: Memory, cfg: Config) -> u64
 
 // The drained epoch's deadline.
 pub fn drain_due(d: Drain, tag: u64, log: &mut [u64; 768], len: usize) -> Drained
-    ensures { λ r. ⌜ (r .drain ≡ drainDue d tag .drain) × (at (r .len) (now (log .exit)) ≡ logged (at len (now (log .entry))) (drainDue d tag .out)) ⌝ }
+    ensures { λ r. ⌜ (r .drain ≡ drainDue d tag .drain) × (Appends (drainDue d tag .out) len (now (log .entry)) (r .len) (now (log .exit))) ⌝ }
 {
     if is_tag(d.some, d.ep.tag, tag) {
         let ep = d.ep;
@@ -119,7 +119,7 @@ pub fn drain_due(d: Drain, tag: u64, log: &mut [u64; 768], len: usize) -> Draine
 
 // The hold of a peer's completed attempt: every exit goes through its record.
 pub fn unadopted_due(c: Cycle, tag: u64, log: &mut [u64; 768], len: usize) -> Cycled
-    ensures { λ r. ⌜ (r .cycle ≡ unadoptedDue c tag .cycle) × (at (r .len) (now (log .exit)) ≡ logged (at len (now (log .entry))) (unadoptedDue c tag .out)) ⌝ }
+    ensures { λ r. ⌜ (r .cycle ≡ unadoptedDue c tag .cycle) × (Appends (unadoptedDue c tag .out) len (now (log .entry)) (r .len) (now (log .exit))) ⌝ }
 {
     if is_peers(c, tag) {
         let ep = c.pendr.ep;
@@ -173,7 +173,7 @@ fn probe_out(
     log: &mut [u64; 768],
     len: usize,
 ) -> usize
-    ensures { λ r. ⌜ at r (now (log .exit)) ≡ logged (at len (now (log .entry))) (only some (Send msg 4) ++ (Prompt tag ∷ Prompt current ∷ [])) ⌝ }
+    ensures { λ r. ⌜ Appends (only some (Send msg 4) ++ (Prompt tag ∷ Prompt current ∷ [])) len (now (log .entry)) r (now (log .exit)) ⌝ }
 {
     if some {
         let a = events::send(log, len, msg, 4);
@@ -195,7 +195,7 @@ fn probe_taken(
     log: &mut [u64; 768],
     len: usize,
 ) -> Cycled
-    ensures { λ r. ⌜ (r .cycle ≡ probing c t grace time current .cycle) × (at (r .len) (now (log .exit)) ≡ logged (at len (now (log .entry))) (probing c t grace time current .out)) ⌝ }
+    ensures { λ r. ⌜ (r .cycle ≡ probing c t grace time current .cycle) × (Appends (probing c t grace time current .out) len (now (log .entry)) (r .len) (now (log .exit))) ⌝ }
 {
     let mut p = c.pendi;
     let moved = t.ladder;
@@ -233,7 +233,7 @@ pub fn probe_due(
     log: &mut [u64; 768],
     len: usize,
 ) -> Cycled
-    ensures { λ r. ⌜ (r .cycle ≡ probeDue c cur current grace tag time .cycle) × (at (r .len) (now (log .exit)) ≡ logged (at len (now (log .entry))) (probeDue c cur current grace tag time .out)) ⌝ }
+    ensures { λ r. ⌜ (r .cycle ≡ probeDue c cur current grace tag time .cycle) × (Appends (probeDue c cur current grace tag time .out) len (now (log .entry)) (r .len) (now (log .exit))) ⌝ }
 {
     let own = is_own(c, tag);
     let some = and(own, c.pendi.probes.some);
@@ -252,7 +252,7 @@ pub fn probe_due(
 
 // A rung of a delayed cutover's retained final message.
 pub fn delayed_due(c: Cycle, tag: u64, time: u64, log: &mut [u64; 768], len: usize) -> Cycled
-    ensures { λ r. ⌜ (r .cycle ≡ delayedDue c tag time .cycle) × (at (r .len) (now (log .exit)) ≡ logged (at len (now (log .entry))) (delayedDue c tag time .out)) ⌝ }
+    ensures { λ r. ⌜ (r .cycle ≡ delayedDue c tag time .cycle) × (Appends (delayedDue c tag time .out) len (now (log .entry)) (r .len) (now (log .exit))) ⌝ }
 {
     let own = is_own(c, tag);
     if and(own, c.pendi.fin.some) {
@@ -282,7 +282,7 @@ pub fn delayed_due(c: Cycle, tag: u64, time: u64, log: &mut [u64; 768], len: usi
 // A rung taken of the current epoch's final message: the last drops it, and a repair falls due if
 // nothing was heard.
 fn fin_taken(cur: MayEpoch, t: Took, log: &mut [u64; 768], len: usize) -> Kept
-    ensures { λ r. ⌜ (r .cur ≡ finTaken cur t .cur) × ((at (r .len) (now (log .exit)) ≡ logged (at len (now (log .entry))) (finTaken cur t .out)) × (r .due ≡ finTaken cur t .due)) ⌝ }
+    ensures { λ r. ⌜ (r .cur ≡ finTaken cur t .cur) × ((Appends (finTaken cur t .out) len (now (log .entry)) (r .len) (now (log .exit))) × (r .due ≡ finTaken cur t .due)) ⌝ }
 {
     let n = events::send(log, len, cur.ep.fin.msg, 4);
     let due = and(t.last, !cur.ep.heard.some);
@@ -305,7 +305,7 @@ fn fin_taken(cur: MayEpoch, t: Took, log: &mut [u64; 768], len: usize) -> Kept
 
 // A rung of the current epoch's final message.
 pub fn fin_due(cur: MayEpoch, tag: u64, time: u64, log: &mut [u64; 768], len: usize) -> Kept
-    ensures { λ r. ⌜ (r .cur ≡ finDue cur tag time .cur) × ((at (r .len) (now (log .exit)) ≡ logged (at len (now (log .entry))) (finDue cur tag time .out)) × (r .due ≡ finDue cur tag time .due)) ⌝ }
+    ensures { λ r. ⌜ (r .cur ≡ finDue cur tag time .cur) × ((Appends (finDue cur tag time .out) len (now (log .entry)) (r .len) (now (log .exit))) × (r .due ≡ finDue cur tag time .due)) ⌝ }
 {
     let held = is_tag(cur.some, cur.ep.tag, tag);
     if and(held, cur.ep.fin.some) {
@@ -338,7 +338,7 @@ fn elicit_taken(
     log: &mut [u64; 768],
     len: usize,
 ) -> Kept
-    ensures { λ r. ⌜ (r .cur ≡ elicitTaken cur t tag time .cur) × ((at (r .len) (now (log .exit)) ≡ logged (at len (now (log .entry))) (elicitTaken cur t tag time .out)) × (r .due ≡ elicitTaken cur t tag time .due)) ⌝ }
+    ensures { λ r. ⌜ (r .cur ≡ elicitTaken cur t tag time .cur) × ((Appends (elicitTaken cur t tag time .out) len (now (log .entry)) (r .len) (now (log .exit))) × (r .due ≡ elicitTaken cur t tag time .due)) ⌝ }
 {
     let n = events::prompt(log, len, tag);
     let moved = t.ladder;
@@ -364,7 +364,7 @@ fn elicit_taken(
 
 // A prompt repeat after a cutover, until the peer is seen to move.
 pub fn elicit_due(cur: MayEpoch, tag: u64, time: u64, log: &mut [u64; 768], len: usize) -> Kept
-    ensures { λ r. ⌜ (r .cur ≡ elicitDue cur tag time .cur) × ((at (r .len) (now (log .exit)) ≡ logged (at len (now (log .entry))) (elicitDue cur tag time .out)) × (r .due ≡ elicitDue cur tag time .due)) ⌝ }
+    ensures { λ r. ⌜ (r .cur ≡ elicitDue cur tag time .cur) × ((Appends (elicitDue cur tag time .out) len (now (log .entry)) (r .len) (now (log .exit))) × (r .due ≡ elicitDue cur tag time .due)) ⌝ }
 {
     let held = is_tag(cur.some, cur.ep.tag, tag);
     let waits = and(!cur.ep.moved.some, cur.ep.elicit.some);
@@ -407,7 +407,7 @@ fn resend_taken(
     log: &mut [u64; 768],
     len: usize,
 ) -> Cycled
-    ensures { λ r. ⌜ (r .cycle ≡ resendTaken c t holds young messages .cycle) × (at (r .len) (now (log .exit)) ≡ logged (at len (now (log .entry))) (resendTaken c t holds young messages .out)) ⌝ }
+    ensures { λ r. ⌜ (r .cycle ≡ resendTaken c t holds young messages .cycle) × (Appends (resendTaken c t holds young messages .out) len (now (log .entry)) (r .len) (now (log .exit))) ⌝ }
 {
     let moved = t.ladder;
     let mut a = c.init;
@@ -438,7 +438,7 @@ pub fn resend_due(
     log: &mut [u64; 768],
     len: usize,
 ) -> Cycled
-    ensures { λ r. ⌜ (r .cycle ≡ resendDue c holds young messages time .cycle) × (at (r .len) (now (log .exit)) ≡ logged (at len (now (log .entry))) (resendDue c holds young messages time .out)) ⌝ }
+    ensures { λ r. ⌜ (r .cycle ≡ resendDue c holds young messages time .cycle) × (Appends (resendDue c holds young messages time .out) len (now (log .entry)) (r .len) (now (log .exit))) ⌝ }
 {
     if and(c.kind == 1, time < c.init.deadline) {
         let ladder = c.init.ladder;
@@ -486,7 +486,7 @@ pub fn expire_due(
     log: &mut [u64; 768],
     len: usize,
 ) -> Failed
-    ensures { λ r. ⌜ (r .cycle ≡ expireDue c m cfg alone time extra .cycle) × ((r .mem ≡ expireDue c m cfg alone time extra .mem) × ((at (r .len) (now (log .exit)) ≡ logged (at len (now (log .entry))) (expireDue c m cfg alone time extra .out)) × (r .ends ≡ expireDue c m cfg alone time extra .ends))) ⌝ }
+    ensures { λ r. ⌜ (r .cycle ≡ expireDue c m cfg alone time extra .cycle) × ((r .mem ≡ expireDue c m cfg alone time extra .mem) × ((Appends (expireDue c m cfg alone time extra .out) len (now (log .entry)) (r .len) (now (log .exit))) × (r .ends ≡ expireDue c m cfg alone time extra .ends))) ⌝ }
 {
     if and(c.kind == 1, c.init.deadline <= time) {
         let a = c.init;

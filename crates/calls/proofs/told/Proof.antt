@@ -1,23 +1,33 @@
+use mathlib.Core.Path.{sym, ap}
+use mathlib.Core.List.{[]}
+use Rattle.refusal.specs.Refusal.{numbered}
+use Rattle.answer.specs.Outcome.{done}
+use Rattle.answer.specs.Answers.{answers-back, answers-unlent}
 use Rattle.calls.specs.Told.{toldOf}
 use Rattle.calls.specs.Exact.{told-exact}
-use borrow.Author.Tests.{eq-eqb, ne-eqb}
 use Rattle.calls.proofs.told.Statement.{statement}
 use Rattle.calls.proofs.told.Tie as tie
 
 told-back-requires : tie.Need-told-back-requires
 told-back-requires c κs = tt
 
+sent-back-requires : tie.Need-sent-back-requires
+sent-back-requires c κs = tt
+
 returns : tie.Need-returns
 unfolding toldOf
-returns c = (simp (ne-eqb _ _ (c .if1 .taken), ← c .before .told-back .ensures), told-exact _ _)
+returns c = (answers-back _ _ _ _ (ap numbered (c .before .before .told-back .ensures)) _ (c .before .if1 .taken) (c .sent-back .ensures) [], told-exact _ _)
 
 put-sent-requires : tie.Need-put-sent-requires
 put-sent-requires c κs = tt
 
+finish-requires : tie.Need-finish-requires
+finish-requires c κs = tt
+
 returns-2 : tie.Need-returns-2
 unfolding toldOf
 returns-2 c =
-    (simp (c .put-sent .ensures, eq-eqb _ _ (c .before .if1 .left), ← c .before .before .told-back .ensures), told-exact _ _)
+    (answers-unlent _ _ _ _ (ap numbered (c .before .before .before .told-back .ensures)) _ (c .before .before .if1 .left) _ (c .finish .ensures) (ap (λ s. done s []) (sym (c .before .put-sent .ensures))), told-exact _ _)
 
 pub told-spec : {M : Type 1} → statement M
-told-spec = tie.close (tie.spec told-back-requires returns put-sent-requires returns-2)
+told-spec = tie.close (tie.spec told-back-requires sent-back-requires returns put-sent-requires finish-requires returns-2)

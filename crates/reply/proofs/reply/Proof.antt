@@ -1,5 +1,8 @@
-use borrow.Author.Tests.{eq-eqb, ne-eqb}
-use Rattle.reply.specs.Reply.{replyOf}
+use mathlib.Core.Path.{sym, ap}
+use mathlib.Core.List.{[]}
+use Rattle.answer.specs.Outcome.{done}
+use Rattle.answer.specs.Answers.{answers-back, answers-unlent}
+use Rattle.reply.specs.Reply.{takenOf, replyRefused, replyOf}
 use Rattle.reply.specs.Exact.{reply-exact}
 use Rattle.reply.proofs.reply.Statement.{statement}
 use Rattle.reply.proofs.reply.Tie as tie
@@ -7,17 +10,23 @@ use Rattle.reply.proofs.reply.Tie as tie
 send-back-requires : tie.Need-send-back-requires
 send-back-requires c κs = tt
 
+sent-back-requires : tie.Need-sent-back-requires
+sent-back-requires c κs = tt
+
 returns : tie.Need-returns
 unfolding replyOf
-returns c = (simp (ne-eqb _ _ (c .if1 .taken), ← c .before .before .send-back .ensures), reply-exact _ _ _ _ _)
+returns c = (answers-back _ _ _ _ (c .before .before .before .send-back .ensures) _ (c .before .if1 .taken) (c .sent-back .ensures) [], reply-exact _ _ _ _ _)
 
 taken-requires : tie.Need-taken-requires
 taken-requires c κs = tt
 
+finish-requires : tie.Need-finish-requires
+finish-requires c κs = tt
+
 returns-2 : tie.Need-returns-2
 unfolding replyOf
 returns-2 c =
-    (simp (c .taken .ensures, eq-eqb _ _ (c .before .if1 .left), ← c .before .before .before .send-back .ensures), reply-exact _ _ _ _ _)
+    (answers-unlent _ _ _ _ (c .before .before .before .before .send-back .ensures) _ (c .before .before .if1 .left) _ (c .finish .ensures) (ap (λ s. done s []) (sym (c .before .taken .ensures))), reply-exact _ _ _ _ _)
 
 pub reply-spec : {M : Type 1} → statement M
-reply-spec = tie.close (tie.spec send-back-requires returns taken-requires returns-2)
+reply-spec = tie.close (tie.spec send-back-requires sent-back-requires returns taken-requires finish-requires returns-2)
