@@ -294,40 +294,19 @@ typedef struct siklyavon_start_reply {
     siklyavon_index lease;
 } siklyavon_start_reply;
 
-/* Answers. number: the refusal, 0 where there is none; place: the settings' check in refusal 1. len: the number of events in the log. */
-typedef struct siklyavon_opened {
-    uint8_t number;
-    uint8_t place;
-    siklyavon_state state;
-    size_t len;
-} siklyavon_opened;
-
-typedef struct siklyavon_polled {
+/* The answer of every call that hands a state back. number: the refusal, 0 where there is none; place: the
+ * settings' check in refusal 1. state: what the call leaves, and where it is refused the state that it was
+ * given (open: a state with no epoch). len: the number of events in the log, 0 of a call that is lent none.
+ * count: the items that a poll's passes listed, 0 of every other call. */
+typedef struct siklyavon_answer {
     uint8_t number;
     uint8_t place;
     siklyavon_state state;
     size_t len;
     size_t count;
-} siklyavon_polled;
+} siklyavon_answer;
 
-typedef struct siklyavon_heard {
-    uint8_t number;
-    uint8_t place;
-    siklyavon_state state;
-    size_t len;
-} siklyavon_heard;
-
-typedef struct siklyavon_replied {
-    uint8_t number;
-    uint8_t place;
-    siklyavon_state state;
-} siklyavon_replied;
-
-typedef struct siklyavon_counted {
-    uint8_t number;
-    siklyavon_state state;
-} siklyavon_counted;
-
+/* The answers of the two calls that only read a state. */
 typedef struct siklyavon_woke {
     uint8_t number;
     uint8_t place;
@@ -351,13 +330,13 @@ siklyavon_config siklyavon_config_fsp(void);
 uint8_t siklyavon_settings(siklyavon_config cfg);
 
 /* A fresh link. Refusals 1, 2, 7. */
-siklyavon_opened siklyavon_open(siklyavon_config cfg, siklyavon_profile p, bool responder,
+siklyavon_answer siklyavon_open(siklyavon_config cfg, siklyavon_profile p, bool responder,
                                 uint64_t transport, siklyavon_index lease, bool workers,
                                 int32_t spread, uint64_t time, uint64_t log[SIKLYAVON_WORDS]);
 
 /* A poll. spread from -J to J, extra from 0 to J, J the setting jitter. Start, delegate and the teardowns
  * 0 and 2 leave the state: they are told again at each poll while their condition holds. Refusals 1 to 7. */
-siklyavon_polled siklyavon_poll(siklyavon_state s, siklyavon_config cfg, siklyavon_profile p,
+siklyavon_answer siklyavon_poll(siklyavon_state s, siklyavon_config cfg, siklyavon_profile p,
                                 uint64_t time, bool workers, int32_t spread, uint32_t extra,
                                 uint64_t log[SIKLYAVON_WORDS]);
 
@@ -371,7 +350,7 @@ bool siklyavon_quiet(const siklyavon_state *s, siklyavon_given g, int32_t spread
  * the profile's floor or does not fit, no byte is written, and reject 20 is told in the place of deliver.
  * Source, target and log must not overlap: the promise supposes it, and where they do the bytes delivered
  * are wrong. Refusals 1 to 9. */
-siklyavon_heard siklyavon_frame(siklyavon_state s, siklyavon_config cfg, siklyavon_profile profile,
+siklyavon_answer siklyavon_frame(siklyavon_state s, siklyavon_config cfg, siklyavon_profile profile,
                                 uint64_t time, bool workers, int32_t spread,
                                 siklyavon_frame_proof p, size_t body, const uint8_t *source,
                                 size_t source_len, uint8_t *target, size_t target_len,
@@ -380,12 +359,12 @@ siklyavon_heard siklyavon_frame(siklyavon_state s, siklyavon_config cfg, siklyav
 /* The answer to a START. It is taken while a start is called for at its own instant, whether a START was
  * told or not. One that opened nothing leaves the state, and the start is still called for. Refusals 1 to
  * 6 and 10. */
-siklyavon_replied siklyavon_reply(siklyavon_state s, siklyavon_config cfg, siklyavon_profile profile,
-                                  uint64_t time, siklyavon_start_reply r);
+siklyavon_answer siklyavon_reply(siklyavon_state s, siklyavon_config cfg, siklyavon_profile profile,
+                                 uint64_t time, siklyavon_start_reply r);
 
 /* The current epoch's sent count is told; without a current epoch nothing changes. The instant decides
  * nothing: like every call of a run this one is logged with it. Refusals 3 to 6 and 11. */
-siklyavon_counted siklyavon_sent(siklyavon_state s, uint64_t time, uint64_t count);
+siklyavon_answer siklyavon_sent(siklyavon_state s, uint64_t time, uint64_t count);
 
 /* The least of the instants that a state names, or none: the deadlines of the drained epoch, of the
  * candidates and of the cycle; the next rungs of the cycle's ladders and of the current epoch's; the

@@ -345,6 +345,13 @@ pub fn open(
     Ok(r.state)
 }
 
+/// Puts the state of an accepted call in place, or gives the refusal and leaves the state.
+fn keep(a: &raw::Answer, state: &mut State) -> Result<(), Refusal> {
+    Refusal::of(a.number, a.place)?;
+    *state = a.state;
+    Ok(())
+}
+
 /// A poll; `spread` is the draw of a cutover, from -J to J, and `extra` that of an abandoned attempt,
 /// from 0 to J, in whole seconds. Gives how many items its passes listed. START, DELEGATE and the
 /// teardowns of an idle opening and of a sent count at `hard` leave the state: they are told again at
@@ -370,8 +377,7 @@ pub fn poll(
         )
     };
     log.len = r.len;
-    Refusal::of(r.number, r.place)?;
-    *state = r.state;
+    keep(&r, state)?;
     Ok(r.count)
 }
 
@@ -446,9 +452,7 @@ pub fn frame(
         )
     };
     log.len = r.len;
-    Refusal::of(r.number, r.place)?;
-    *state = r.state;
-    Ok(())
+    keep(&r, state)
 }
 
 /// The answer to a START: the attempt that was opened, or none. It is taken while a start is called
@@ -467,9 +471,7 @@ pub fn reply(state: &mut State, at: Instant<'_>, opened: Option<Attempted>) -> R
     };
     // SAFETY: as in `open`.
     let r = unsafe { raw::siklyavon_reply(*state, *at.cfg, *at.profile, at.now, r) };
-    Refusal::of(r.number, r.place)?;
-    *state = r.state;
-    Ok(())
+    keep(&r, state)
 }
 
 /// How many frames were sealed under the current epoch, told at an instant. Without a current epoch it
@@ -478,9 +480,7 @@ pub fn reply(state: &mut State, at: Instant<'_>, opened: Option<Attempted>) -> R
 pub fn sent(state: &mut State, now: u64, count: u64) -> Result<(), Refusal> {
     // SAFETY: as in `open`.
     let r = unsafe { raw::siklyavon_sent(*state, now, count) };
-    Refusal::of(r.number, 0)?;
-    *state = r.state;
-    Ok(())
+    keep(&r, state)
 }
 
 /// The least of the instants that a state names, or none where it names none: the deadlines of the

@@ -329,52 +329,17 @@ pub struct StartReply {
     pub lease: Index,
 }
 
-/// What `siklyavon_open` answers.
+/// What every call answers that hands a state back: the refusal's number, 0 where there is none, with
+/// the check's place in 1; the state, which of a refused call is the one that it was given; how many
+/// events the log has; and how many items a poll's passes listed.
 #[repr(C)]
 #[derive(Clone, Copy, Debug)]
-pub struct Opened {
-    pub number: u8,
-    pub place: u8,
-    pub state: State,
-    pub len: usize,
-}
-
-/// What `siklyavon_poll` answers.
-#[repr(C)]
-#[derive(Clone, Copy, Debug)]
-pub struct Polled {
+pub struct Answer {
     pub number: u8,
     pub place: u8,
     pub state: State,
     pub len: usize,
     pub count: usize,
-}
-
-/// What `siklyavon_frame` answers.
-#[repr(C)]
-#[derive(Clone, Copy, Debug)]
-pub struct Heard {
-    pub number: u8,
-    pub place: u8,
-    pub state: State,
-    pub len: usize,
-}
-
-/// What `siklyavon_reply` answers.
-#[repr(C)]
-#[derive(Clone, Copy, Debug)]
-pub struct Replied {
-    pub number: u8,
-    pub place: u8,
-    pub state: State,
-}
-
-/// What `siklyavon_sent` answers.
-#[repr(C)]
-#[derive(Clone, Copy, Debug)]
-pub struct Counted {
-    pub number: u8,
-    pub state: State,
 }
 
 /// What `siklyavon_wake` answers.
@@ -418,7 +383,7 @@ extern "C" {
         spread: i32,
         time: u64,
         log: &mut [u64; WORDS],
-    ) -> Opened;
+    ) -> Answer;
     pub fn siklyavon_poll(
         s: State,
         cfg: Config,
@@ -428,7 +393,7 @@ extern "C" {
         spread: i32,
         extra: u32,
         log: &mut [u64; WORDS],
-    ) -> Polled;
+    ) -> Answer;
     pub fn siklyavon_frame(
         s: State,
         cfg: Config,
@@ -443,15 +408,15 @@ extern "C" {
         target: *mut u8,
         target_len: usize,
         log: &mut [u64; WORDS],
-    ) -> Heard;
+    ) -> Answer;
     pub fn siklyavon_reply(
         s: State,
         cfg: Config,
         profile: Profile,
         time: u64,
         r: StartReply,
-    ) -> Replied;
-    pub fn siklyavon_sent(s: State, time: u64, count: u64) -> Counted;
+    ) -> Answer;
+    pub fn siklyavon_sent(s: State, time: u64, count: u64) -> Answer;
     pub fn siklyavon_wake(s: State, cfg: Config, p: Profile) -> Woke;
     pub fn siklyavon_quiet(s: &State, g: Given, spread: i32) -> bool;
     pub fn siklyavon_status(s: State, cfg: Config, p: Profile, time: u64) -> Shown;

@@ -1,7 +1,7 @@
 -- That the log which a call fills is what `Written` says, and laws of the two ways out of a call.
 use Prim.Native.Nat.{ℕ, zero, suc, _≤_, _<_, _+_, _*_}
 use mathlib.Core.Bool.{Bool, true, false}
-use mathlib.Core.Path.{_≡_, refl, sym, _∙_, ap, ap₂}
+use mathlib.Core.Path.{_≡_, refl, sym, _∙_, ap, ap₂, subst}
 use mathlib.Core.List.{List, [], _∷_, _++_, map}
 use native.Mathlib.Omega.{arith}
 use native.Mathlib.Nat.{zero-add}
@@ -167,6 +167,10 @@ module _ (r : Refused) (s : State) (o : Outcome) where
           let z = eqb-true (r .number) 0 e in
           ap₂ (λ a b. record { number = a; place = b }) (n ∙ sym z) (p ∙ sym (f z))
       under false e = refl
+
+  -- and what holds of them holds of the outcome's
+  pub by-tests : (P : Refused → Type 0) → o .number ≡ 0 → o .place ≡ 0 → (r .number ≡ 0 → r .place ≡ 0) → P r → P (refusedOf (outcomeBy r s o))
+  by-tests P n p f x = subst P (sym (by-refused n p f)) x
 
   -- the number decides which of the two it is
   pub by-zero : o .number ≡ 0 → outcomeBy r s o .number ≡ 0 → r .number ≡ 0

@@ -1,21 +1,13 @@
 // The calls of the replay format, each on what a row holds. An accepted call's state goes into
 // another row. No public function has a `requires`.
+use answer::Answer;
 use form::ARGS;
 use frame::FrameProof;
 use reply::StartReply;
 use time::When;
 
-// The number that sends a call back and its place, or 0 and 0; how many events were told, and how
-// many items were done.
-pub struct Verdict {
-    pub number: u8,
-    pub place: u8,
-    pub len: usize,
-    pub count: usize,
-}
-
 // `open now role transport lease workers spread`
-pub fn open(v: &[u64; 655], left: &mut [u64; 655], log: &mut [u64; 768]) -> Verdict {
+pub fn open(v: &[u64; 655], left: &mut [u64; 655], log: &mut [u64; 768]) -> Answer {
     let cfg = records::config_of(v);
     let profile = records::profile_of(v);
     let lease = form::index_at(v, ARGS, 3);
@@ -31,16 +23,11 @@ pub fn open(v: &[u64; 655], left: &mut [u64; 655], log: &mut [u64; 768]) -> Verd
         log,
     );
     records::keep(left, r.state);
-    Verdict {
-        number: r.number,
-        place: r.place,
-        len: r.len,
-        count: 0,
-    }
+    r
 }
 
 // `poll now workers spread extra`
-pub fn poll(v: &[u64; 655], left: &mut [u64; 655], log: &mut [u64; 768]) -> Verdict {
+pub fn poll(v: &[u64; 655], left: &mut [u64; 655], log: &mut [u64; 768]) -> Answer {
     let s = records::state_of(v);
     let cfg = records::config_of(v);
     let profile = records::profile_of(v);
@@ -55,12 +42,7 @@ pub fn poll(v: &[u64; 655], left: &mut [u64; 655], log: &mut [u64; 768]) -> Verd
         log,
     );
     records::keep(left, r.state);
-    Verdict {
-        number: r.number,
-        place: r.place,
-        len: r.len,
-        count: r.count,
-    }
+    r
 }
 
 // The extra of a poll. One below 0 is outside of every setting, as the largest is.
@@ -79,7 +61,7 @@ pub fn frame(
     log: &mut [u64; 768],
     source: &[u8],
     target: &mut [u8],
-) -> Verdict {
+) -> Answer {
     let s = records::state_of(v);
     let cfg = records::config_of(v);
     let profile = records::profile_of(v);
@@ -98,12 +80,7 @@ pub fn frame(
         log,
     );
     records::keep(left, r.state);
-    Verdict {
-        number: r.number,
-        place: r.place,
-        len: r.len,
-        count: 0,
-    }
+    r
 }
 
 fn frame_proof(v: &[u64; 655]) -> FrameProof {
@@ -118,19 +95,14 @@ fn frame_proof(v: &[u64; 655]) -> FrameProof {
 }
 
 // `reply now opened hs msg transport lease`
-pub fn reply(v: &[u64; 655], left: &mut [u64; 655]) -> Verdict {
+pub fn reply(v: &[u64; 655], left: &mut [u64; 655]) -> Answer {
     let s = records::state_of(v);
     let cfg = records::config_of(v);
     let profile = records::profile_of(v);
     let told = start_reply(v);
     let r = reply::reply(s, cfg, profile, form::number_at(v, ARGS, 0), told);
     records::keep(left, r.state);
-    Verdict {
-        number: r.number,
-        place: r.place,
-        len: 0,
-        count: 0,
-    }
+    r
 }
 
 fn start_reply(v: &[u64; 655]) -> StartReply {
@@ -145,16 +117,11 @@ fn start_reply(v: &[u64; 655]) -> StartReply {
 }
 
 // `sent now count`
-pub fn sent(v: &[u64; 655], left: &mut [u64; 655]) -> Verdict {
+pub fn sent(v: &[u64; 655], left: &mut [u64; 655]) -> Answer {
     let s = records::state_of(v);
     let r = calls::told(s, form::number_at(v, ARGS, 0), form::number_at(v, ARGS, 1));
     records::keep(left, r.state);
-    Verdict {
-        number: r.number,
-        place: 0,
-        len: 0,
-        count: 0,
-    }
+    r
 }
 
 // `wake`. Puts the words of the answer and answers its form.

@@ -4,7 +4,7 @@
 use Prim.Native.Nat.{ℕ, _≤_, _<_}
 use mathlib.Core.Bool.{Bool, true, false, false≢true}
 use mathlib.Core.Logic.{_↔_, _⊎_, inl, inr, ⊎-elim, Iff·trans}
-use mathlib.Core.Path.{_≡_, refl, sym, _∙_, ap, subst}
+use mathlib.Core.Path.{_≡_, refl, sym, _∙_, ap}
 use mathlib.Core.List.{List, [], _∷_}
 use native.Mathlib.Omega.{arith}
 use borrow.Author.Tests.{eq-eqb, ne-eqb}
@@ -16,11 +16,10 @@ use Rattle.epoch.specs.declared.Index.{Index}
 use Rattle.state.specs.declared.State.{State}
 use Rattle.state.specs.declared.Profile.{Profile}
 use Rattle.wake.specs.Wake.{wakeOf}
-use Rattle.refusal.specs.declared.Refused.{Refused}
 use Rattle.refusal.specs.Refusal.{anyOf, spreadBad, Test, numbered, first, by, givenTests, stateTests, openTests, replyTests, beforeOpen, beforeReply}
 use Rattle.refusal.specs.First.{rising}
-use Rattle.answer.specs.Outcome.{Outcome, refusedOf, done, outcomeBy}
-use Rattle.answer.specs.Laws.{by-either, by-refused, by-nonzero}
+use Rattle.answer.specs.Outcome.{Outcome, done}
+use Rattle.answer.specs.Laws.{by-either, by-tests, by-nonzero}
 use Rattle.exact.specs.Reads.{Reads, reads-flag, reads-less, reads-and, reads-as}
 use Rattle.exact.specs.Words.{GivenOk, StateOk, SpreadOk, SpreadOut, reads-spread}
 use Rattle.exact.specs.Numbers.{GivenNumbers, StateNumbers, LinkOk, Placed, Opening, Linked, Standing, anyPlace, and-then, alone-holds, alone-fails, opening, linked, standing}
@@ -52,18 +51,11 @@ module _ (cfg : Config) (p : Profile) (spread : ℤ) where
   unfolding openTests givenTests rising anyPlace anyOf
   open-turn = opening cfg p (by 7 (spreadBad (cfg .jitter) spread) ∷ []) refl refl
 
-  -- the same of the outcome of an `open`
-  open-told : (s : State) (o : Outcome) → o .number ≡ 0 → o .place ≡ 0 → Opening (refusedOf (outcomeBy (beforeOpen cfg p spread) s o)) (first (by 7 (spreadBad (cfg .jitter) spread) ∷ []) .number) cfg p
-  open-told s o n q =
-      subst (λ r. Opening r (first (by 7 (spreadBad (cfg .jitter) spread) ∷ []) .number) cfg p)
-      (sym (by-refused (beforeOpen cfg p spread) s o n q (λ z. open-turn .place .none (λ e. omega arith))))
-      open-turn
-
   pub open-exact : (responder : Bool) (transport : ℕ) (lease : Index) (workers : Bool) (time : ℕ) → OpenExact cfg p spread (openOf cfg p responder transport lease workers spread time)
   unfolding openOf opened
   open-exact responder transport lease workers time =
       let o = opened responder transport lease workers spread time in
-      let l = open-told blankState o refl refl in
+      let l = by-tests (beforeOpen cfg p spread) blankState o (λ x. Opening x (first (by 7 (spreadBad (cfg .jitter) spread) ∷ []) .number) cfg p) refl refl (λ z. open-turn .place .none (λ e. omega arith)) open-turn in
       record {
         accepted =
             Iff·trans (and-then (l .later 0 (inl refl)) (alone-fails (reads-spread (cfg .jitter) spread) 7 (omega arith)))
@@ -127,15 +119,14 @@ module _ (s : State) (count : ℕ) where
   told-exact =
       let r = numbered (toldNumber s count) in
       let o = done (toldState s count) [] in
-      let e = by-refused r s o refl refl (λ z. refl) in
-      let l = subst (λ n. Standing n (first eleven .number) s) (sym (ap (λ (q : Refused). q .number) e)) told-turn in
+      let l = by-tests r s o (λ x. Standing (x .number) (first eleven .number) s × (x .place ≡ 0)) refl refl (λ z. refl) (told-turn, refl) in
       record {
         accepted =
-            Iff·trans (and-then (l .later 0 (inl refl)) (alone-fails (reads-held s count) 11 (omega arith)))
+            Iff·trans (and-then (l .0 .later 0 (inl refl)) (alone-fails (reads-held s count) 11 (omega arith)))
             (λ x. record { state = x .0; held = x .1 }, λ o. (o .state, o .held));
-        state = l .state;
-        below = and-then (l .later 11 (inr (omega arith))) (alone-holds (reads-held s count) 11 (omega arith));
-        place = ap (λ (q : Refused). q .place) e;
+        state = l .0 .state;
+        below = and-then (l .0 .later 11 (inr (omega arith))) (alone-holds (reads-held s count) 11 (omega arith));
+        place = l .1;
         silent = by-either r s o (λ x. x .out ≡ []) refl refl;
         back = λ h. ap (λ (x : Outcome). x .state) (by-nonzero r s o refl h);
       }

@@ -2,6 +2,7 @@
 -- and `heard_previous` of machine.rs that change one part alone, in its order.
 use Prim.Native.Nat.{ℕ}
 use mathlib.Core.Bool.{Bool, true, false, not}
+use mathlib.Core.Path.{_≡_}
 use mathlib.Core.List.{List, [], _∷_}
 use lib.Dec.{leb, ltb}
 use Rattle.time.specs.declared.When.{When}
@@ -22,12 +23,19 @@ use Rattle.candidates.specs.declared.Candidates.{Candidates}
 use Rattle.candidates.specs.Held.{clearedOf, keptAfter}
 use Rattle.state.specs.declared.Memory.{Memory}
 use Rattle.events.specs.Events.{Event, Prompt}
+use Rattle.events.specs.Log.{Appends}
 use Rattle.rows.specs.Rows.{and}
+use Rattle.evidence.specs.declared.Prompted.{Prompted}
 
 -- what hearing leaves of an epoch
 pub record EpochStep : Type 0 where
   pub ep : Epoch
   pub out : List Event
+
+-- what a function promises that changes an epoch so: the epoch, and its events behind the `len` that were
+-- in the log
+abbrev pub Did : EpochStep → ℕ → List ℕ → Prompted → List ℕ → Type 0
+Did t len ws r ws′ = (r .ep ≡ t .ep) × Appends (t .out) len ws (r .len) ws′
 
 -- ---- an epoch with one of its parts changed
 

@@ -1,9 +1,8 @@
 // What an authenticated frame tells of each part of the state: the rows of `heard_current`,
 // `heard_previous` and `revert` of machine.rs that change one part alone.
 ghost use mathlib.Core.Path.{_≡_};
-ghost use Rattle.events.specs.Log.{Appends};
 ghost use Rattle.cutover.specs.Cutover.{heardFrame};
-ghost use Rattle.evidence.specs.Evidence.{blindTo, promptDue, staying, movesNow, heardFirst, heardCands, movedFirst, shortened, promptedNow, stayedNow, heardEpoch, unassumed, revertedPend, heardAny, onlyAssumed, confirming as confirmingOf};
+ghost use Rattle.evidence.specs.Evidence.{Did, blindTo, promptDue, staying, movesNow, heardFirst, heardCands, movedFirst, shortened, promptedNow, stayedNow, heardEpoch, unassumed, revertedPend, heardAny, onlyAssumed, confirming as confirmingOf};
 use candidates::Candidates;
 use cycle::Cycle;
 use cycle::PendI;
@@ -155,7 +154,7 @@ pub fn shorten(d: Drain, moves: bool, hold: u64, time: u64) -> Drain
 
 // A prompt, where it is asked for and the gap has passed.
 pub fn prompt_now(ep: Epoch, asks: bool, time: u64, log: &mut [u64; 768], len: usize) -> Prompted
-    ensures { λ r. ⌜ (r .ep ≡ promptedNow ep asks time .ep) × (Appends (promptedNow ep asks time .out) len (now (log .entry)) (r .len) (now (log .exit))) ⌝ }
+    ensures { λ r. ⌜ Did (promptedNow ep asks time) len (now (log .entry)) r (now (log .exit)) ⌝ }
 {
     let passed = prompt_due(ep.prompted, time);
     if rows::and(asks, passed) {
@@ -187,7 +186,7 @@ pub fn stay(c: Cycle, grace: u64, time: u64) -> Cycle
 
 // The current epoch after a frame.
 pub fn hear_epoch(ep: Epoch, blind: bool, time: u64, log: &mut [u64; 768], len: usize) -> Prompted
-    ensures { λ r. ⌜ (r .ep ≡ heardEpoch ep blind time .ep) × (Appends (heardEpoch ep blind time .out) len (now (log .entry)) (r .len) (now (log .exit))) ⌝ }
+    ensures { λ r. ⌜ Did (heardEpoch ep blind time) len (now (log .entry)) r (now (log .exit)) ⌝ }
 {
     let heard = hear_first(ep, time);
     let moved = move_first(heard, blind, time);

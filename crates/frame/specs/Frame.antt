@@ -1,6 +1,7 @@
 -- `frame` of machine.rs, by the slot that the frame authenticated under.
 use Prim.Native.Nat.{ℕ}
 use mathlib.Core.Bool.{Bool}
+use mathlib.Core.Path.{_≡_}
 use mathlib.Core.List.{List, _∷_, _++_}
 use lib.Dec.{eqb}
 use lib.IntN.{ℤ}
@@ -14,12 +15,14 @@ use Rattle.cycle.specs.Kind.{isPendI, isPendR}
 use Rattle.state.specs.declared.State.{State}
 use Rattle.state.specs.declared.Given.{Given}
 use Rattle.events.specs.Events.{Event, Mark, Ended}
+use Rattle.events.specs.Log.{Appends}
 use Rattle.retire.specs.Retire.{only}
 use Rattle.rows.specs.Rows.{and}
 use Rattle.cutover.specs.declared.Pend.{Pend}
 use Rattle.cutover.specs.Cutover.{cutoverOf}
 use Rattle.hear.specs.Hear.{heardCurrent, heardPrevious}
 use Rattle.frame.specs.declared.FrameProof.{FrameProof}
+use Rattle.frame.specs.declared.Framed.{Framed}
 use Rattle.deliver.specs.Deliver.{deliverOut, deliverInto}
 
 -- what a frame leaves: the state, the target buffer and the events
@@ -27,6 +30,11 @@ pub record FrameStep : Type 0 where
   pub state : State
   pub target : List ℕ
   pub out : List Event
+
+-- what a function promises that takes a frame so: its state, the target's bytes, and its events behind the
+-- `len` that were in the log
+abbrev pub Did : FrameStep → List ℕ → ℕ → List ℕ → Framed → List ℕ → Type 0
+Did t target len ws r ws′ = (r .state ≡ t .state) × ((target ≡ t .target) × Appends (t .out) len ws (r .len) ws′)
 
 -- ---- refusals 8 and 9
 

@@ -1,7 +1,7 @@
 // A frame that authenticated: `frame` of machine.rs, and the refusals that concern a frame alone.
 ghost use mathlib.Core.Path.{_≡_};
 ghost use Rattle.events.specs.Log.{Appends};
-ghost use Rattle.frame.specs.Frame.{pendingTag, slotTag, frameBack, endedOut, pendOf, pendingFrame, currentFrame, previousFrame, frameOf};
+ghost use Rattle.frame.specs.Frame.{Did, pendingTag, slotTag, frameBack, endedOut, pendOf, pendingFrame, currentFrame, previousFrame, frameOf};
 use cutover::Pend;
 use cycle::Cycle;
 use state::Given;
@@ -133,7 +133,7 @@ fn frame_pending(
     log: &mut [u64; 768],
     len: usize,
 ) -> Framed
-    ensures { λ r. ⌜ (r .state ≡ pendingFrame s g spread p body (now (source .entry)) (now (target .entry)) .state) × ((now (target .exit) ≡ pendingFrame s g spread p body (now (source .entry)) (now (target .entry)) .target) × (Appends (pendingFrame s g spread p body (now (source .entry)) (now (target .entry)) .out) len (now (log .entry)) (r .len) (now (log .exit)))) ⌝ }
+    ensures { λ r. ⌜ Did (pendingFrame s g spread p body (now (source .entry)) (now (target .entry))) (now (target .exit)) len (now (log .entry)) r (now (log .exit)) ⌝ }
 {
     let a = end_pending(s.cycle, log, len);
     let pend = pend_of(s.cycle, p.k);
@@ -167,7 +167,7 @@ fn frame_current(
     log: &mut [u64; 768],
     len: usize,
 ) -> Framed
-    ensures { λ r. ⌜ (r .state ≡ currentFrame s g p body (now (source .entry)) (now (target .entry)) .state) × ((now (target .exit) ≡ currentFrame s g p body (now (source .entry)) (now (target .entry)) .target) × (Appends (currentFrame s g p body (now (source .entry)) (now (target .entry)) .out) len (now (log .entry)) (r .len) (now (log .exit)))) ⌝ }
+    ensures { λ r. ⌜ Did (currentFrame s g p body (now (source .entry)) (now (target .entry))) (now (target .exit)) len (now (log .entry)) r (now (log .exit)) ⌝ }
 {
     let a = deliver::deliver(
         0,
@@ -199,7 +199,7 @@ fn frame_previous(
     log: &mut [u64; 768],
     len: usize,
 ) -> Framed
-    ensures { λ r. ⌜ (r .state ≡ previousFrame s g p body (now (source .entry)) (now (target .entry)) .state) × ((now (target .exit) ≡ previousFrame s g p body (now (source .entry)) (now (target .entry)) .target) × (Appends (previousFrame s g p body (now (source .entry)) (now (target .entry)) .out) len (now (log .entry)) (r .len) (now (log .exit)))) ⌝ }
+    ensures { λ r. ⌜ Did (previousFrame s g p body (now (source .entry)) (now (target .entry))) (now (target .exit)) len (now (log .entry)) r (now (log .exit)) ⌝ }
 {
     let a = deliver::deliver(
         2,
@@ -232,7 +232,7 @@ pub fn frame_accepted(
     log: &mut [u64; 768],
     len: usize,
 ) -> Framed
-    ensures { λ r. ⌜ (r .state ≡ frameOf s g spread p body (now (source .entry)) (now (target .entry)) .state) × ((now (target .exit) ≡ frameOf s g spread p body (now (source .entry)) (now (target .entry)) .target) × (Appends (frameOf s g spread p body (now (source .entry)) (now (target .entry)) .out) len (now (log .entry)) (r .len) (now (log .exit)))) ⌝ }
+    ensures { λ r. ⌜ Did (frameOf s g spread p body (now (source .entry)) (now (target .entry))) (now (target .exit)) len (now (log .entry)) r (now (log .exit)) ⌝ }
 {
     let a = events::mark(log, len, p.tag, p.counter);
     if p.slot == 1 {

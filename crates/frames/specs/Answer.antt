@@ -58,7 +58,7 @@ module _ (s : State) (cfg : Config) (profile : Profile) (time : ℕ) (workers : 
     unfolding frameAnswer frameTarget
     frame-on z left len e h ws ws′ k w after t = (
       answers-on r s (heard f) back b a z left len 0 e refl refl h refl ws ws′
-      (written-all 0 (f .out) len ws ws′ k (omega (arith, frame-most s (givenOf cfg profile time workers) spread p body source target)) w (λ n. absurd (n refl))),
+          (written-all 0 (f .out) len ws ws′ k (omega (arith, frame-most s (givenOf cfg profile time workers) spread p body source target)) w (λ n. absurd (n refl))),
       (
         t ∙ sym (ap (λ q. pick q (f .target) target) (eq-eqb (r .number) 0 (ap (λ (q : Refused). q .number) (sym b) ∙ z))),
         frame-exact s cfg profile time workers spread p body source target,

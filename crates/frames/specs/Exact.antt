@@ -3,7 +3,7 @@
 use Prim.Native.Nat.{ℕ}
 use mathlib.Core.Bool.{Bool, true, false}
 use mathlib.Core.Logic.{_↔_, inl, inr, Iff·trans}
-use mathlib.Core.Path.{_≡_, refl, sym, subst}
+use mathlib.Core.Path.{_≡_, refl}
 use mathlib.Core.List.{List, [], _∷_}
 use native.Mathlib.Omega.{arith}
 use lib.IntN.{ℤ}
@@ -16,8 +16,8 @@ use Rattle.refusal.specs.First.{rising}
 use Rattle.exact.specs.Reads.{reads-flag, reads-same, reads-not}
 use Rattle.exact.specs.Words.{GivenOk, SpreadOk, SpreadOut, reads-spread}
 use Rattle.exact.specs.Numbers.{GivenNumbers, StateNumbers, LinkOk, Placed, Linked, anyPlace, above-pick, here, past, and-then, linked}
-use Rattle.answer.specs.Outcome.{Outcome, refusedOf, outcomeBy}
-use Rattle.answer.specs.Laws.{by-refused}
+use Rattle.answer.specs.Outcome.{Outcome}
+use Rattle.answer.specs.Laws.{by-tests}
 use Rattle.frame.specs.declared.FrameProof.{FrameProof}
 use Rattle.frame.specs.Frame.{slotTag, frameOf}
 use Rattle.frames.specs.Frames.{slotEmpty, otherTag, heardTests, frameRefused, givenOf, heard, frameAnswer, frameTarget}
@@ -99,20 +99,15 @@ module _ (s : State) (cfg : Config) (profile : Profile) (spread : ℤ) (slot tag
       and-then (past-seven 0 (λ e. omega arith))
       (and-then (past-eight 0 (λ e. omega arith)) (past (reads-not (reads-same (slotTag s slot .at) tag)) 9 0 0 (λ e. omega arith)))
 
-  -- the same of a frame's outcome
-  told : (o : Outcome) → o .number ≡ 0 → o .place ≡ 0 → Linked (refusedOf (outcomeBy (frameRefused s cfg profile spread slot tag) s o)) (first own .number) s cfg profile
-  told o n q =
-      subst (λ r. Linked r (first own .number) s cfg profile)
-      (sym (by-refused (frameRefused s cfg profile spread slot tag) s o n q (λ z. in-turn .place .none (λ e. omega arith))))
-      in-turn
-
 pub frame-exact :
     (s : State) (cfg : Config) (profile : Profile) (time : ℕ) (workers : Bool) (spread : ℤ) (p : FrameProof) (body : ℕ) (source target : List ℕ)
     → FrameExact s cfg profile spread p target (frameAnswer s cfg profile time workers spread p body source target) (frameTarget s cfg profile time workers spread p body source target)
 unfolding frameAnswer
 frame-exact s cfg profile time workers spread p body source target =
-    let f = heard (frameOf s (givenOf cfg profile time workers) spread p body source target) in
-    let l = told s cfg profile spread (p .slot) (p .tag) f refl refl in
+    let r = frameRefused s cfg profile spread (p .slot) (p .tag) in
+    let o = heard (frameOf s (givenOf cfg profile time workers) spread p body source target) in
+    let t = in-turn s cfg profile spread (p .slot) (p .tag) in
+    let l = by-tests r s o (λ x. Linked x (first (own s cfg profile spread (p .slot) (p .tag)) .number) s cfg profile) refl refl (λ z. t .place .none (λ e. omega arith)) t in
     record {
       accepted =
           Iff·trans (and-then (l .later 0 (inl refl)) (is-none s cfg profile spread (p .slot) (p .tag))) (

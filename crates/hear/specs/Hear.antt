@@ -2,6 +2,7 @@
 -- the whole state.
 use Prim.Native.Nat.{ℕ}
 use mathlib.Core.Bool.{Bool, true, false}
+use mathlib.Core.Path.{_≡_}
 use mathlib.Core.List.{List, [], _∷_, _++_}
 use Rattle.time.specs.Pick.{pick}
 use Rattle.settings.specs.declared.Config.{Config}
@@ -11,15 +12,21 @@ use Rattle.state.specs.declared.State.{State}
 use Rattle.state.specs.declared.Given.{Given}
 use Rattle.state.specs.Parts.{putMem, putCur, putCycle}
 use Rattle.events.specs.Events.{Event, Prompt, Reverted}
+use Rattle.events.specs.Log.{Appends}
 use Rattle.retire.specs.Retire.{abandonOut}
 use Rattle.rows.specs.Rows.{grace}
 use Rattle.cutover.specs.Cutover.{heardFrame}
 use Rattle.evidence.specs.Evidence.{blindTo, movesNow, heardCands, shortened, promptedNow, stayedNow, heardEpoch, revertedPend, heardAny, onlyAssumed, confirming}
+use Rattle.hear.specs.declared.Heard.{Heard}
 
 -- what hearing leaves of the state
 pub record HearStep : Type 0 where
   pub state : State
   pub out : List Event
+
+-- what a function promises that hears so: its state, and its events behind the `len` that were in the log
+abbrev pub Did : HearStep → ℕ → List ℕ → Heard → List ℕ → Type 0
+Did t len ws r ws′ = (r .state ≡ t .state) × Appends (t .out) len ws (r .len) ws′
 
 -- ---- `heard_current`
 

@@ -4,7 +4,7 @@ ghost use mathlib.Core.Path.{_≡_};
 ghost use mathlib.Core.List.{[], _∷_};
 ghost use Rattle.events.specs.Events.{Reverted, Prompt};
 ghost use Rattle.events.specs.Log.{Appends};
-ghost use Rattle.hear.specs.Hear.{hearing, heardCurrent, revertOf, assumedHeard, confirmingHeard, heardPrevious};
+ghost use Rattle.hear.specs.Hear.{Did, hearing, heardCurrent, revertOf, assumedHeard, confirmingHeard, heardPrevious};
 use epoch::MayEpoch;
 use settings::Config;
 use state::Given;
@@ -18,7 +18,7 @@ pub struct Heard {
 
 // A frame under a current epoch that is held.
 fn hear(s: State, g: Given, k: bool, blind: bool, log: &mut [u64; 768], len: usize) -> Heard
-    ensures { λ r. ⌜ (r .state ≡ hearing s g k blind .state) × (Appends (hearing s g k blind .out) len (now (log .entry)) (r .len) (now (log .exit))) ⌝ }
+    ensures { λ r. ⌜ Did (hearing s g k blind) len (now (log .entry)) r (now (log .exit)) ⌝ }
 {
     let p = evidence::hear_epoch(s.cur.ep, blind, g.now, log, len);
     let m = evidence::moves(s.cur.ep, blind);
@@ -50,7 +50,7 @@ pub fn heard_current(
     log: &mut [u64; 768],
     len: usize,
 ) -> Heard
-    ensures { λ r. ⌜ (r .state ≡ heardCurrent s g k probe .state) × (Appends (heardCurrent s g k probe .out) len (now (log .entry)) (r .len) (now (log .exit))) ⌝ }
+    ensures { λ r. ⌜ Did (heardCurrent s g k probe) len (now (log .entry)) r (now (log .exit)) ⌝ }
 {
     if s.cur.some {
         let blind = evidence::is_blind(s.cur.ep, g.profile.at_proof, probe);
@@ -71,7 +71,7 @@ fn revert_out(tag: u64, restored: u64, log: &mut [u64; 768], len: usize) -> usiz
 
 // An assumed epoch goes back to pending, and the drained one is current again. Both are held.
 pub fn revert(s: State, cfg: Config, time: u64, log: &mut [u64; 768], len: usize) -> Heard
-    ensures { λ r. ⌜ (r .state ≡ revertOf s cfg time .state) × (Appends (revertOf s cfg time .out) len (now (log .entry)) (r .len) (now (log .exit))) ⌝ }
+    ensures { λ r. ⌜ Did (revertOf s cfg time) len (now (log .entry)) r (now (log .exit)) ⌝ }
 {
     let n = revert_out(s.cur.ep.tag, s.drain.ep.tag, log, len);
     let pendi = evidence::revert_pend(s.cur.ep, cfg, time);
@@ -89,7 +89,7 @@ pub fn revert(s: State, cfg: Config, time: u64, log: &mut [u64; 768], len: usize
 
 // The previous epoch is heard while the current one was only assumed.
 fn hear_assumed(s: State, g: Given, log: &mut [u64; 768], len: usize) -> Heard
-    ensures { λ r. ⌜ (r .state ≡ assumedHeard s g .state) × (Appends (assumedHeard s g .out) len (now (log .entry)) (r .len) (now (log .exit))) ⌝ }
+    ensures { λ r. ⌜ Did (assumedHeard s g) len (now (log .entry)) r (now (log .exit)) ⌝ }
 {
     if s.cycle.kind == 1 {
         let a = s.cycle.init;
@@ -117,7 +117,7 @@ fn hear_assumed(s: State, g: Given, log: &mut [u64; 768], len: usize) -> Heard
 
 // The previous epoch is heard otherwise.
 fn hear_confirming(s: State, g: Given, log: &mut [u64; 768], len: usize) -> Heard
-    ensures { λ r. ⌜ (r .state ≡ confirmingHeard s g .state) × (Appends (confirmingHeard s g .out) len (now (log .entry)) (r .len) (now (log .exit))) ⌝ }
+    ensures { λ r. ⌜ Did (confirmingHeard s g) len (now (log .entry)) r (now (log .exit)) ⌝ }
 {
     let asks = evidence::confirming(s.cur, g.profile.at_proof, g.cfg, g.now);
     let p = evidence::prompt_now(s.cur.ep, asks, g.now, log, len);
@@ -136,7 +136,7 @@ fn hear_confirming(s: State, g: Given, log: &mut [u64; 768], len: usize) -> Hear
 
 // A frame under the previous epoch.
 pub fn heard_previous(s: State, g: Given, log: &mut [u64; 768], len: usize) -> Heard
-    ensures { λ r. ⌜ (r .state ≡ heardPrevious s g .state) × (Appends (heardPrevious s g .out) len (now (log .entry)) (r .len) (now (log .exit))) ⌝ }
+    ensures { λ r. ⌜ Did (heardPrevious s g) len (now (log .entry)) r (now (log .exit)) ⌝ }
 {
     let mem = evidence::hear_any(s.mem, g.now);
     let mut told = s;

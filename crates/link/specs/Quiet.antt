@@ -5,6 +5,7 @@ use mathlib.Core.List.{[]}
 use lib.IntN.{ℤ}
 use Rattle.state.specs.declared.State.{State}
 use Rattle.state.specs.declared.Given.{Given}
+use Rattle.answer.specs.Outcome.{done}
 use Rattle.poll.specs.Poll.{pollOf}
 use Rattle.poll.specs.Runs.{quiet}
 use Rattle.poll.specs.Link.{Call, aPoll, link}
@@ -23,7 +24,7 @@ pub record Tells (s : State) (g : Given) (spread : ℤ) (r : Bool) : Type 0 wher
   pub still :
       r ≡ true
       → pollOf s (g .cfg) (g .profile) (g .now) (g .workers) spread (g .extra)
-      ≡ record { number = 0; place = 0; state = s; out = []; count = 0 }
+      ≡ done s []
 
 module _ (s : State) (g : Given) (spread : ℤ) (r : Bool) where
   pub tells : r ≡ quiet link (polled g spread) s → Tells s g spread r

@@ -2,33 +2,28 @@
 // promises. Records cross by value, laid out as C does; no enum crosses; the log and a frame's two
 // buffers are lent.
 ghost use mathlib.Core.Path.{_≡_};
+ghost use mathlib.Core.List.{[]};
 ghost use Rattle.settings.specs.Settings.{fmp, fsp, placeOf};
+ghost use Rattle.answer.specs.Answers.{Answers};
 ghost use Rattle.calls.specs.Open.{openOf};
-ghost use Rattle.calls.specs.Answer.{Opens};
 ghost use Rattle.calls.specs.Exact.{OpenExact, ToldExact, WakeExact, StatusExact};
 ghost use Rattle.calls.specs.Told.{toldOf};
 ghost use Rattle.calls.specs.Read.{wokeOf, statusOf};
 ghost use Rattle.sample.specs.Sample.{wholeOf, valuesOf, flagsOf, besideOf, proofOf, answerOf};
-ghost use Rattle.frames.specs.Frames.{frameAnswer};
-ghost use Rattle.frames.specs.Answer.{Hears};
+ghost use Rattle.frames.specs.Frames.{frameAnswer, frameTarget};
 ghost use Rattle.frames.specs.Exact.{FrameExact};
 ghost use Rattle.reply.specs.Reply.{replyOf};
 ghost use Rattle.reply.specs.Exact.{ReplyExact};
 ghost use Rattle.poll.specs.Poll.{pollOf};
-ghost use Rattle.poll.specs.Answer.{writtenOf, Answers};
 ghost use Rattle.poll.specs.Exact.{PollExact};
 ghost use Rattle.poll.specs.Acts.{PollActs};
 ghost use Rattle.poll.specs.Link.{TwoRuns};
 ghost use Rattle.link.specs.Quiet.{Tells};
-use calls::Counted;
-use calls::Opened;
+use answer::Answer;
 use calls::Shown;
 use calls::Woke;
 use epoch::Index;
 use frame::FrameProof;
-use frames::Heard;
-use poll::Polled;
-use reply::Replied;
 use reply::StartReply;
 use settings::Config;
 use state::Given;
@@ -71,8 +66,8 @@ pub extern "C" fn siklyavon_open(
     spread: i32,
     time: u64,
     log: &mut [u64; 768],
-) -> Opened
-    ensures open { λ r. ⌜ Opens (openOf cfg p responder transport lease workers spread time) r (now (log .entry)) (now (log .exit)) ⌝ }
+) -> Answer
+    ensures open { λ r. ⌜ Answers (openOf cfg p responder transport lease workers spread time) r (now (log .entry)) (now (log .exit)) ⌝ }
     ensures exact { λ r. ⌜ OpenExact cfg p spread (openOf cfg p responder transport lease workers spread time) ⌝ }
 {
     calls::open(
@@ -99,8 +94,8 @@ pub extern "C" fn siklyavon_poll(
     spread: i32,
     extra: u32,
     log: &mut [u64; 768],
-) -> Polled
-    ensures poll { λ r. ⌜ Answers (pollOf s cfg p time workers spread extra) (writtenOf s cfg p time workers spread extra) r (now (log .entry)) (now (log .exit)) ⌝ }
+) -> Answer
+    ensures poll { λ r. ⌜ Answers (pollOf s cfg p time workers spread extra) r (now (log .entry)) (now (log .exit)) ⌝ }
     ensures exact { λ r. ⌜ PollExact s cfg p spread extra (pollOf s cfg p time workers spread extra) ⌝ }
     ensures acts { λ r. ⌜ PollActs s cfg p time workers (pollOf s cfg p time workers spread extra) ⌝ }
     ensures runs { λ r. ⌜ TwoRuns ⌝ }
@@ -123,9 +118,10 @@ pub extern "C" fn siklyavon_frame(
     source: &[u8],
     target: &mut [u8],
     log: &mut [u64; 768],
-) -> Heard
-    ensures frame { λ r. ⌜ Hears (frameAnswer s cfg profile time workers spread p body (now (source .entry)) (now (target .entry))) r (now (target .exit)) (now (log .entry)) (now (log .exit)) ⌝ }
-    ensures exact { λ r. ⌜ FrameExact s cfg profile spread p (now (target .entry)) (frameAnswer s cfg profile time workers spread p body (now (source .entry)) (now (target .entry))) ⌝ }
+) -> Answer
+    ensures frame { λ r. ⌜ Answers (frameAnswer s cfg profile time workers spread p body (now (source .entry)) (now (target .entry))) r (now (log .entry)) (now (log .exit)) ⌝ }
+    ensures target { λ r. ⌜ now (target .exit) ≡ frameTarget s cfg profile time workers spread p body (now (source .entry)) (now (target .entry)) ⌝ }
+    ensures exact { λ r. ⌜ FrameExact s cfg profile spread p (now (target .entry)) (frameAnswer s cfg profile time workers spread p body (now (source .entry)) (now (target .entry))) (frameTarget s cfg profile time workers spread p body (now (source .entry)) (now (target .entry))) ⌝ }
     ensures runs { λ r. ⌜ TwoRuns ⌝ }
 {
     frames::frame(
@@ -151,8 +147,8 @@ pub extern "C" fn siklyavon_reply(
     profile: Profile,
     time: u64,
     r: StartReply,
-) -> Replied
-    ensures reply { λ a. ⌜ a ≡ replyOf s cfg profile time r ⌝ }
+) -> Answer
+    ensures reply { λ a. ⌜ Answers (replyOf s cfg profile time r) a [] [] ⌝ }
     ensures exact { λ a. ⌜ ReplyExact s cfg profile time (replyOf s cfg profile time r) ⌝ }
     ensures runs { λ a. ⌜ TwoRuns ⌝ }
 {
@@ -162,8 +158,8 @@ pub extern "C" fn siklyavon_reply(
 // The current epoch's sent count is told at `time`, with which the call is logged. The answer does
 // not depend on it.
 #[no_mangle]
-pub extern "C" fn siklyavon_sent(s: State, time: u64, count: u64) -> Counted
-    ensures sent { λ r. ⌜ r ≡ toldOf s count ⌝ }
+pub extern "C" fn siklyavon_sent(s: State, time: u64, count: u64) -> Answer
+    ensures sent { λ r. ⌜ Answers (toldOf s count) r [] [] ⌝ }
     ensures exact { λ r. ⌜ ToldExact s count (toldOf s count) ⌝ }
     ensures runs { λ r. ⌜ TwoRuns ⌝ }
 {

@@ -6,7 +6,7 @@ ghost use Rattle.time.specs.Pick.{pick};
 ghost use Rattle.time.specs.Time.{least};
 ghost use Rattle.items.specs.Arrays.{most};
 ghost use Rattle.events.specs.Log.{Appends};
-ghost use Rattle.turn.specs.Turn.{itemStep};
+ghost use Rattle.turn.specs.Turn.{Did, itemStep};
 ghost use Rattle.pass.specs.Pass.{firstOf, workOf, passOf};
 use state::Given;
 use state::State;
@@ -28,7 +28,7 @@ fn step(
     log: &mut [u64; 768],
     len: usize,
 ) -> Ran
-    ensures { λ r. ⌜ (r .state ≡ itemStep s g spread kind key .state) × ((Appends (itemStep s g spread kind key .out) len (now (log .entry)) (r .len) (now (log .exit))) × (r .ended ≡ itemStep s g spread kind key .ends)) ⌝ }
+    ensures { λ r. ⌜ Did (itemStep s g spread kind key) len (now (log .entry)) r (now (log .exit)) ⌝ }
 {
     if kind == 1 {
         turn::candidate_due(s, key, g.now, log, len)

@@ -6,26 +6,24 @@ use mathlib.Core.Logic.{⊎-elim}
 use mathlib.Core.Path.{_≡_, refl, sym, _∙_, ap, subst}
 use mathlib.Core.List.{[]}
 use native.Mathlib.Omega.{arith}
-use lib.Dec.{eqb}
 use lib.IntN.{ℤ}
-use Rattle.time.specs.Pick.{pick}
 use Rattle.settings.specs.declared.Config.{Config}
 use Rattle.state.specs.declared.State.{State}
 use Rattle.state.specs.declared.Profile.{Profile}
 use Rattle.state.specs.declared.Given.{Given}
 use Rattle.wake.specs.Due.{someIn, anyDue}
 use Rattle.wake.specs.Quiet.{quietOf}
-use Rattle.refusal.specs.Refusal.{beforePoll}
 use Rattle.refusal.specs.Sound.{Sound}
+use Rattle.answer.specs.Outcome.{Outcome}
 use Rattle.passes.specs.Passes.{Ended}
 use Rattle.polled.specs.Still.{passes-still, passes-speak}
 use Rattle.cleared.specs.Passes.{passes-clear}
 use Rattle.exact.specs.Numbers.{sound-words}
-use Rattle.poll.specs.Poll.{Poll, givenTo, acceptedPoll, sentBack, pollOf}
-use Rattle.poll.specs.Laws.{poll-still, poll-speaks}
+use Rattle.poll.specs.Poll.{givenTo, acceptedPoll, pollOf}
+use Rattle.poll.specs.Laws.{taken as poll-taken, poll-still, poll-speaks}
 use Rattle.poll.specs.Exact.{poll-exact}
 
-pub record PollActs (s : State) (cfg : Config) (p : Profile) (now : ℕ) (workers : Bool) (a : Poll) : Type 0 where
+pub record PollActs (s : State) (cfg : Config) (p : Profile) (now : ℕ) (workers : Bool) (a : Outcome) : Type 0 where
   -- an item is due: it is counted
   pub counted : a .number ≡ 0 → anyDue s now ≡ true → 0 < a .count
   -- "A poll makes at most three passes": they leave no item due at its instant
@@ -39,17 +37,11 @@ module _ (s : State) (cfg : Config) (p : Profile) (now : ℕ) (workers : Bool) (
   abbrev g : Given
   g = givenTo cfg p now workers extra
 
-  abbrev answer : Poll
+  abbrev answer : Outcome
   answer = pollOf s cfg p now workers spread extra
 
-  -- what an accepted poll gives
-  taken : answer .number ≡ 0 → answer ≡ acceptedPoll s g spread
-  unfolding pollOf
-  taken z = under (eqb (beforePoll s cfg p spread extra .number) 0) refl z
-    where
-      under : (b : Bool) → eqb (beforePoll s cfg p spread extra .number) 0 ≡ b → pick b (acceptedPoll s g spread) (sentBack (beforePoll s cfg p spread extra) s) .number ≡ 0 → pick b (acceptedPoll s g spread) (sentBack (beforePoll s cfg p spread extra) s) ≡ acceptedPoll s g spread
-      under true e z = refl
-      under false e z = absurd (false≢true (sym e ∙ ap (λ n. eqb n 0) z))
+  abbrev taken : answer .number ≡ 0 → answer ≡ acceptedPoll s g spread
+  taken = poll-taken s cfg p now workers spread extra
 
   accepted-sound : answer .number ≡ 0 → Sound s
   accepted-sound z = sound-words s .1 (poll-exact s cfg p spread extra now workers .accepted .0 z .link .state)
@@ -58,8 +50,8 @@ module _ (s : State) (cfg : Config) (p : Profile) (now : ℕ) (workers : Bool) (
   unfolding acceptedPoll
   poll-acts =
       record {
-        counted = λ z e. subst (λ (a : Poll). 0 < a .count) (sym (taken z)) (passes-speak g spread s e);
-        clear = λ z. ap (λ (a : Poll). anyDue (a .state) now) (taken z) ∙ passes-clear g spread s (accepted-sound z);
-        tells = λ z e q. ⊎-elim (λ t. t) (λ h. absurd (omega (arith, h, ap (λ (a : Poll). a .count) (taken z), ap (λ (t : Ended). t .count) (passes-still g spread s e)))) (poll-speaks s cfg p now workers spread extra z q);
-        still = λ z q. let e = poll-still s cfg p now workers spread extra z q in (ap (λ (a : Poll). a .out) e, ap (λ (a : Poll). a .count) e, ap (λ (a : Poll). a .state) e);
+        counted = λ z e. subst (λ (a : Outcome). 0 < a .count) (sym (taken z)) (passes-speak g spread s e);
+        clear = λ z. ap (λ (a : Outcome). anyDue (a .state) now) (taken z) ∙ passes-clear g spread s (accepted-sound z);
+        tells = λ z e q. ⊎-elim (λ t. t) (λ h. absurd (omega (arith, h, ap (λ (a : Outcome). a .count) (taken z), ap (λ (t : Ended). t .count) (passes-still g spread s e)))) (poll-speaks s cfg p now workers spread extra z q);
+        still = λ z q. let e = poll-still s cfg p now workers spread extra z q in (ap (λ (a : Outcome). a .out) e, ap (λ (a : Outcome). a .count) e, ap (λ (a : Outcome). a .state) e);
       }

@@ -24,7 +24,7 @@ use Rattle.wake.specs.Quiet.{openingIdle, teardownStands, offerOwed}
 use Rattle.wake.specs.Quiet.{offerable as owedFor}
 use Rattle.retire.specs.Retire.{only, offerable, floorTold, delegateOut}
 use Rattle.closing.specs.Logs.{tests-most, going-most}
-use Rattle.closing.specs.Closing.{idleNow, testsOut, endsNow, startOut, offerOut, offering, going, waitsFor, sealing, closing}
+use Rattle.closing.specs.Closing.{idleNow, testsOut, endsNow, startOut, offerOut, offering, going, waitsFor, sealing, closing, unsealed}
 
 -- ---- an event that stays
 
@@ -132,9 +132,13 @@ module _ (s : State) (g : Given) where
   tests : Bool → Bool → List Event
   tests i x = only i (Teardown teardownOpeningIdle) ++ only x (Teardown teardownCounterExhausted)
 
+  unsealed-tests : (i x : Bool) → openingIdle s ≡ i → exhausted s (g .cfg) ≡ x → unsealed s g false [] ≡ going s g (i || x) (tests i x)
+  unfolding endsNow testsOut idleNow tests
+  unsealed-tests i x p q = ap₂ (λ a b. going s g (a || b) (only a (Teardown teardownOpeningIdle) ++ only b (Teardown teardownCounterExhausted))) p q
+
   closing-tests : (i x : Bool) → openingIdle s ≡ i → exhausted s (g .cfg) ≡ x → closing s g false [] ≡ sealing s (going s g (i || x) (tests i x))
-  unfolding closing endsNow testsOut idleNow tests
-  closing-tests i x p q = ap₂ (λ a b. sealing s (going s g (a || b) (only a (Teardown teardownOpeningIdle) ++ only b (Teardown teardownCounterExhausted)))) p q
+  unfolding closing
+  closing-tests i x p q = ap (sealing s) (unsealed-tests i x p q)
 
   owed-parts : offerOwed s (g .workers) ≡ curOwed || drainOwed
   unfolding offerOwed
@@ -148,13 +152,18 @@ module _ (s : State) (g : Given) where
   neither true b e = absurd (true≢false e)
   neither false b e = (refl, e)
 
-  -- nothing is told
-  pub closing-still : called ≡ false → teardownStands s (g .cfg) ≡ false → offerOwed s (g .workers) ≡ false → closing s g false [] ≡ []
-  unfolding teardownStands sealing kept tests
-  closing-still c d o =
+  -- nothing is written
+  pub unsealed-still : called ≡ false → teardownStands s (g .cfg) ≡ false → offerOwed s (g .workers) ≡ false → unsealed s g false [] ≡ []
+  unfolding teardownStands tests
+  unsealed-still c d o =
       let t = neither (openingIdle s) (exhausted s (g .cfg)) d in
       let w = neither curOwed drainOwed (sym owed-parts ∙ o) in
-      closing-tests false false (t .0) (t .1) ∙ ap (sealing s) (goes-on ∙ on-none c (w .0) (w .1))
+      unsealed-tests false false (t .0) (t .1) ∙ (goes-on ∙ on-none c (w .0) (w .1))
+
+  -- and nothing is told
+  pub closing-still : called ≡ false → teardownStands s (g .cfg) ≡ false → offerOwed s (g .workers) ≡ false → closing s g false [] ≡ []
+  unfolding closing sealing kept
+  closing-still c d o = ap (sealing s) (unsealed-still c d o)
 
   -- an event is told
   pub closing-speaks : called || (teardownStands s (g .cfg) || offerOwed s (g .workers)) ≡ true → someIn (closing s g false []) ≡ true

@@ -3,22 +3,21 @@
 use Prim.Native.Nat.{ℕ, _≤_, _<_}
 use mathlib.Core.Bool.{Bool, true, false, _||_}
 use mathlib.Core.Logic.{_↔_, _⊎_, inl, inr, Iff·trans}
-use mathlib.Core.Path.{_≡_, refl, sym}
+use mathlib.Core.Path.{_≡_, refl, ap}
 use mathlib.Core.List.{[], _∷_}
 use native.Mathlib.Omega.{arith}
-use borrow.Author.Tests.{eqb-true}
-use lib.Dec.{eqb}
 use lib.IntN.{ℤ}
-use Rattle.time.specs.Pick.{pick}
 use Rattle.settings.specs.declared.Config.{Config}
 use Rattle.state.specs.declared.State.{State}
 use Rattle.state.specs.declared.Profile.{Profile}
 use Rattle.refusal.specs.Refusal.{anyOf, spreadBad, extraBad, first, by, givenTests, stateTests, pollTests, replyTests, beforePoll}
 use Rattle.refusal.specs.First.{rising}
+use Rattle.answer.specs.Outcome.{Outcome}
+use Rattle.answer.specs.Laws.{by-tests, by-nonzero}
 use Rattle.exact.specs.Reads.{Reads, reads-less, reads-or}
 use Rattle.exact.specs.Words.{GivenOk, SpreadOk, SpreadOut, reads-spread}
 use Rattle.exact.specs.Numbers.{GivenNumbers, StateNumbers, LinkOk, Placed, Linked, anyPlace, and-then, alone-holds, alone-fails, linked}
-use Rattle.poll.specs.Poll.{Poll, givenTo, acceptedPoll, sentBack, pollOf}
+use Rattle.poll.specs.Poll.{givenTo, acceptedPoll, pollOf}
 
 -- 1 to 7 pass
 pub record PollOk (s : State) (cfg : Config) (p : Profile) (spread : ℤ) (extra : ℕ) : Type 0 where
@@ -27,7 +26,7 @@ pub record PollOk (s : State) (cfg : Config) (p : Profile) (spread : ℤ) (extra
   -- "Extra, from 0 to J"
   pub more : extra ≤ cfg .jitter
 
-pub record PollExact (s : State) (cfg : Config) (p : Profile) (spread : ℤ) (extra : ℕ) (a : Poll) : Type 0 where
+pub record PollExact (s : State) (cfg : Config) (p : Profile) (spread : ℤ) (extra : ℕ) (a : Outcome) : Type 0 where
   pub accepted : (a .number ≡ 0) ↔ PollOk s cfg p spread extra
   -- 1 and 2
   pub given : GivenNumbers (a .number) cfg p
@@ -52,24 +51,18 @@ module _ (s : State) (cfg : Config) (p : Profile) (spread : ℤ) (extra : ℕ) w
 
   pub poll-exact : (now : ℕ) (workers : Bool) → PollExact s cfg p spread extra (pollOf s cfg p now workers spread extra)
   unfolding pollOf acceptedPoll
-  poll-exact now workers = under (eqb (beforePoll s cfg p spread extra .number) 0) refl
-    where
-      same : (a : Poll) → a .number ≡ beforePoll s cfg p spread extra .number → a .place ≡ beforePoll s cfg p spread extra .place → ((a .number ≡ 0 → ⊥) → (a .state ≡ s) × (a .out ≡ []) × (a .count ≡ 0)) → PollExact s cfg p spread extra a
-      same a n q back =
-          record {
-            accepted =
-                rw n
-                (Iff·trans (and-then (in-turn .later 0 (inl refl)) (alone-fails reads-draws 7 (omega arith)))
-                (λ x. record { link = x .0; drawn = x .1 .0; more = x .1 .1 }, λ o. (o .link, (o .drawn, o .more))));
-            given = rw n (in-turn .given);
-            state = rw n (in-turn .state);
-            draws = rw n (and-then (in-turn .later 7 (inr (omega arith))) (alone-holds reads-draws 7 (omega arith)));
-            place = rw (n, q) (in-turn .place);
-            back = back;
-          }
-
-      under : (b : Bool) → eqb (beforePoll s cfg p spread extra .number) 0 ≡ b → PollExact s cfg p spread extra (pick b (acceptedPoll s (givenTo cfg p now workers extra) spread) (sentBack (beforePoll s cfg p spread extra) s))
-      under true e =
-          let z : beforePoll s cfg p spread extra .number ≡ 0 = eqb-true (beforePoll s cfg p spread extra .number) 0 e in
-          same (acceptedPoll s (givenTo cfg p now workers extra) spread) (sym z) (sym (in-turn .place .none (λ q. omega arith))) (λ h. absurd (h refl))
-      under false e = same (sentBack (beforePoll s cfg p spread extra) s) refl refl (λ h. (refl, refl, refl))
+  poll-exact now workers =
+      let o = acceptedPoll s (givenTo cfg p now workers extra) spread in
+      let l = by-tests (beforePoll s cfg p spread extra) s o (λ x. Linked x (first (by 7 out-of-range ∷ []) .number) s cfg p) refl refl (λ z. in-turn .place .none (λ e. omega arith)) in-turn in
+      record {
+        accepted =
+            Iff·trans (and-then (l .later 0 (inl refl)) (alone-fails reads-draws 7 (omega arith)))
+            (λ x. record { link = x .0; drawn = x .1 .0; more = x .1 .1 }, λ o. (o .link, (o .drawn, o .more)));
+        given = l .given;
+        state = l .state;
+        draws = and-then (l .later 7 (inr (omega arith))) (alone-holds reads-draws 7 (omega arith));
+        place = l .place;
+        back = λ h.
+            let e = by-nonzero (beforePoll s cfg p spread extra) s o refl h in
+            (ap (λ (x : Outcome). x .state) e, ap (λ (x : Outcome). x .out) e, ap (λ (x : Outcome). x .count) e);
+      }

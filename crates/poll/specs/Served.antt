@@ -10,6 +10,7 @@ use Rattle.state.specs.declared.State.{State}
 use Rattle.state.specs.Stands.{stands}
 use Rattle.events.specs.Events.{Event}
 use Rattle.refusal.specs.Refusal.{stateBack}
+use Rattle.answer.specs.Outcome.{Outcome}
 use Rattle.early.specs.Early.{Early}
 use Rattle.poll.specs.Runs.{Answer, back, gave, Out, goesOn}
 
@@ -29,6 +30,10 @@ noBuffers = record { source = []; target = [] }
 abbrev pub answerOf : ℕ → ℕ → List Event → Option ℕ → Answer Event
 answerOf zero place out count = gave out count
 answerOf (suc n) place out count = back (suc n) place
+
+-- an outcome as a step of a run: `bytes` are those of the buffers after it, and a poll's count is told
+abbrev pub stepOf : Buffers → Option ℕ → Outcome → Out State Event Buffers
+stepOf bytes count o = record { said = answerOf (o .number) (o .place) (o .out) count; bytes = bytes; next = o .state }
 
 pub record Served : Type 0 where
   pub name : Name

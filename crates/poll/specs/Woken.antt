@@ -15,14 +15,15 @@ use Rattle.settings.specs.declared.Config.{Config}
 use Rattle.state.specs.declared.State.{State}
 use Rattle.state.specs.declared.Profile.{Profile}
 use Rattle.events.specs.Events.{Event}
-use Rattle.refusal.specs.declared.Refused.{Refused}
 use Rattle.refusal.specs.Refusal.{beforePoll, beforeReply}
+use Rattle.answer.specs.Outcome.{done, outcomeBy}
+use Rattle.answer.specs.Laws.{by-test}
 use Rattle.wake.specs.Wake.{wakeOf}
 use Rattle.wake.specs.Quiet.{quietOf}
 use Rattle.exact.specs.Numbers.{LinkOk}
 use Rattle.calls.specs.Read.{wokeOf, statusOf}
 use Rattle.calls.specs.Exact.{wake-exact, status-exact}
-use Rattle.poll.specs.Poll.{Poll, givenTo, acceptedPoll, sentBack, pollBy, pollOf}
+use Rattle.poll.specs.Poll.{givenTo, acceptedPoll, pollOf}
 use Rattle.poll.specs.Laws.{poll-still}
 use Rattle.poll.specs.Runs.{goesOn, accepted, quiet}
 use Rattle.poll.specs.Served.{answerOf}
@@ -39,23 +40,14 @@ pub taken : (n place : ℕ) (out : List Event) (c : Option ℕ) (b : Bool) → g
 taken zero place out c b q = (refl, q)
 taken (suc n) place out c b q = absurd (false≢true q)
 
--- an answer by its refusal
-by-refusal :
-    (r : Refused) (s : State) (a : Poll) (c : Option ℕ) → a .number ≡ 0
-    → goesOn (answerOf (pollBy r s a .number) (pollBy r s a .place) (pollBy r s a .out) c) ≡ eqb (r .number) 0
-by-refusal r s a c z = under (eqb (r .number) 0) refl
-  where
-    under :
-        (b : Bool) → eqb (r .number) 0 ≡ b
-        → goesOn (answerOf (pick b a (sentBack r s) .number) (pick b a (sentBack r s) .place) (pick b a (sentBack r s) .out) c) ≡ b
-    under true e = goes (a .number) (a .place) (a .out) c ∙ eq-eqb (a .number) 0 z
-    under false e = goes (r .number) (r .place) _ c ∙ e
-
 module _ (s : State) (cfg : Config) (p : Profile) (now : ℕ) (workers : Bool) (spread : ℤ) (extra : ℕ) where
   -- "A call is accepted when no number sends it back"
   pub accepted-poll : accepted link (aPoll cfg p now workers spread extra) s ≡ eqb (beforePoll s cfg p spread extra .number) 0
   unfolding pollOf acceptedPoll
-  accepted-poll = by-refusal (beforePoll s cfg p spread extra) s (acceptedPoll s (givenTo cfg p now workers extra) spread) _ refl
+  accepted-poll =
+      let r = beforePoll s cfg p spread extra in
+      let o = acceptedPoll s (givenTo cfg p now workers extra) spread in
+      goes (outcomeBy r s o .number) _ _ _ ∙ by-test r s o (λ x. eqb (x .number) 0 ≡ eqb (r .number) 0) refl (λ e. eq-eqb 0 0 refl ∙ sym e)
 
   -- quiet in the demand's sense: accepted, and none of the four conditions
   pub quiet-poll :
@@ -67,7 +59,7 @@ module _ (s : State) (cfg : Config) (p : Profile) (now : ℕ) (workers : Bool) (
   -- a quiet poll has no event and a count of 0, and gives the state back
   pub quiet-still :
       quiet link (aPoll cfg p now workers spread extra) s ≡ true
-      → pollOf s cfg p now workers spread extra ≡ record { number = 0; place = 0; state = s; out = []; count = 0 }
+      → pollOf s cfg p now workers spread extra ≡ done s []
   unfolding quietOf
   quiet-still q =
       let a = pollOf s cfg p now workers spread extra in

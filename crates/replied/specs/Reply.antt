@@ -2,6 +2,7 @@
 use Prim.Native.Nat.{ℕ}
 use mathlib.Core.Bool.{Bool, true, false, false≢true}
 use mathlib.Core.Path.{_≡_}
+use mathlib.Core.List.{[]}
 use lib.Dec.{eqb}
 use Rattle.time.specs.Pick.{pick, of-choice}
 use Rattle.time.specs.Time.{at}

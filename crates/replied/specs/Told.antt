@@ -2,6 +2,7 @@
 use Prim.Native.Nat.{ℕ, _≤_}
 use mathlib.Core.Bool.{Bool, true, false, false≢true}
 use mathlib.Core.Path.{_∙_}
+use mathlib.Core.List.{[]}
 use native.Mathlib.Omega.{arith}
 use lib.Dec.{eqb}
 use lib.IntN.{ℤ}
@@ -12,7 +13,7 @@ use Rattle.epoch.specs.Put.{putEp}
 use Rattle.state.specs.declared.State.{State}
 use Rattle.state.specs.declared.Profile.{Profile}
 use Rattle.state.specs.Parts.{putCur}
-use Rattle.refusal.specs.Refusal.{beforeOpen}
+use Rattle.refusal.specs.Refusal.{numbered, beforeOpen}
 use Rattle.refusal.specs.Sound.{Sound, sound, sounding}
 use Rattle.calls.specs.Blank.{noCurrent, noDrain, idle}
 use Rattle.answer.specs.Outcome.{done}

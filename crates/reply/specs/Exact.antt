@@ -3,7 +3,7 @@
 use Prim.Native.Nat.{ℕ, _≤_, _<_}
 use mathlib.Core.Bool.{true, false, not}
 use mathlib.Core.Logic.{_↔_, _⊎_, inl, inr, Iff·trans}
-use mathlib.Core.Path.{_≡_, refl, sym, ap, subst}
+use mathlib.Core.Path.{_≡_, refl, ap}
 use mathlib.Core.List.{[], _∷_}
 use native.Mathlib.Omega.{arith}
 use Rattle.settings.specs.declared.Config.{Config}
@@ -12,8 +12,8 @@ use Rattle.state.specs.declared.Profile.{Profile}
 use Rattle.start.specs.Start.{startKind, calledFor}
 use Rattle.refusal.specs.Refusal.{anyOf, first, by, givenTests, stateTests, replyTests}
 use Rattle.refusal.specs.First.{rising}
-use Rattle.answer.specs.Outcome.{Outcome, refusedOf, done, outcomeBy}
-use Rattle.answer.specs.Laws.{by-either, by-refused, by-nonzero}
+use Rattle.answer.specs.Outcome.{Outcome, done}
+use Rattle.answer.specs.Laws.{by-either, by-tests, by-nonzero}
 use Rattle.exact.specs.Reads.{Reads, reads-flag, reads-less, reads-and, reads-not, reads-as}
 use Rattle.exact.specs.Words.{GivenOk}
 use Rattle.exact.specs.Numbers.{GivenNumbers, StateNumbers, LinkOk, Placed, Linked, anyPlace, and-then, alone-holds, alone-fails, linked}
@@ -60,18 +60,11 @@ module _ (s : State) (cfg : Config) (p : Profile) (now : ℕ) where
   unfolding replyRefused repliedTests replyTests givenTests stateTests rising anyPlace anyOf
   in-turn = linked s cfg p (by 10 (not (calledFor s cfg p now)) ∷ []) refl refl
 
-  -- the same of a reply's outcome
-  told : (o : Outcome) → o .number ≡ 0 → o .place ≡ 0 → Linked (refusedOf (outcomeBy (replyRefused s cfg p now) s o)) (first (by 10 (not (calledFor s cfg p now)) ∷ []) .number) s cfg p
-  told o n q =
-      subst (λ r. Linked r (first (by 10 (not (calledFor s cfg p now)) ∷ []) .number) s cfg p)
-      (sym (by-refused (replyRefused s cfg p now) s o n q (λ z. in-turn .place .none (λ e. omega arith))))
-      in-turn
-
   pub reply-exact : (r : StartReply) → ReplyExact s cfg p now (replyOf s cfg p now r)
   unfolding replyOf
   reply-exact r =
       let o = done (takenOf s cfg p now r) [] in
-      let l = told o refl refl in
+      let l = by-tests (replyRefused s cfg p now) s o (λ x. Linked x (first (by 10 (not (calledFor s cfg p now)) ∷ []) .number) s cfg p) refl refl (λ z. in-turn .place .none (λ e. omega arith)) in-turn in
       record {
         accepted =
             Iff·trans (and-then (l .later 0 (inl refl)) (alone-fails (reads-called s cfg p now) 10 (omega arith)))

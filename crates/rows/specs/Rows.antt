@@ -24,7 +24,10 @@ use Rattle.cycle.specs.Put.{putInit, putPendI, movedInit, withFin, withProbes}
 use Rattle.candidates.specs.declared.Candidates.{Candidates}
 use Rattle.state.specs.declared.Memory.{Memory}
 use Rattle.events.specs.Events.{Event, Send, Prompt, Reject, Abandoned, Teardown, Ended}
+use Rattle.events.specs.Log.{Appends}
 use Rattle.retire.specs.Retire.{only, retireOut, abandonOut}
+use Rattle.rows.specs.declared.Cycled.{Cycled}
+use Rattle.rows.specs.declared.Kept.{Kept}
 
 -- ---- what a row leaves
 
@@ -36,11 +39,19 @@ pub record CycleStep : Type 0 where
   pub cycle : Cycle
   pub out : List Event
 
+-- what a row of the cycle promises: the cycle, and its events behind the `len` that were in the log
+abbrev pub DidCycle : CycleStep → ℕ → List ℕ → Cycled → List ℕ → Type 0
+DidCycle t len ws r ws′ = (r .cycle ≡ t .cycle) × Appends (t .out) len ws (r .len) ws′
+
 -- with whether a repair falls due
 pub record CurStep : Type 0 where
   pub cur : MayEpoch
   pub out : List Event
   pub due : Bool
+
+-- what a row of the current epoch promises: the epoch, its events, and whether a repair falls due
+abbrev pub DidCur : CurStep → ℕ → List ℕ → Kept → List ℕ → Type 0
+DidCur t len ws r ws′ = (r .cur ≡ t .cur) × (Appends (t .out) len ws (r .len) ws′ × (r .due ≡ t .due))
 
 -- with whether the link ends
 pub record FailStep : Type 0 where

@@ -10,7 +10,7 @@ ghost use Rattle.time.specs.Pick.{pick};
 ghost use Rattle.time.specs.Time.{least};
 ghost use Rattle.events.specs.Events.{Send, Prompt};
 ghost use Rattle.retire.specs.Retire.{only};
-ghost use Rattle.rows.specs.Rows.{and as andOf, isTag, isOwn, isPeers, grace as graceOf, drainDue, unadoptedDue, lateFor, probing, probeDue, delayedDue, finTaken, finDue, elicitTaken, elicitDue, firstKind, resendTaken, resendDue, abandonedMem, expireDue};
+ghost use Rattle.rows.specs.Rows.{DidCycle, DidCur, and as andOf, isTag, isOwn, isPeers, grace as graceOf, drainDue, unadoptedDue, lateFor, probing, probeDue, delayedDue, finTaken, finDue, elicitTaken, elicitDue, firstKind, resendTaken, resendDue, abandonedMem, expireDue};
 use cycle::Cycle;
 use cycle::PendI;
 use epoch::Drain;
@@ -119,7 +119,7 @@ pub fn drain_due(d: Drain, tag: u64, log: &mut [u64; 768], len: usize) -> Draine
 
 // The hold of a peer's completed attempt: every exit goes through its record.
 pub fn unadopted_due(c: Cycle, tag: u64, log: &mut [u64; 768], len: usize) -> Cycled
-    ensures { λ r. ⌜ (r .cycle ≡ unadoptedDue c tag .cycle) × (Appends (unadoptedDue c tag .out) len (now (log .entry)) (r .len) (now (log .exit))) ⌝ }
+    ensures { λ r. ⌜ DidCycle (unadoptedDue c tag) len (now (log .entry)) r (now (log .exit)) ⌝ }
 {
     if is_peers(c, tag) {
         let ep = c.pendr.ep;
@@ -195,7 +195,7 @@ fn probe_taken(
     log: &mut [u64; 768],
     len: usize,
 ) -> Cycled
-    ensures { λ r. ⌜ (r .cycle ≡ probing c t grace time current .cycle) × (Appends (probing c t grace time current .out) len (now (log .entry)) (r .len) (now (log .exit))) ⌝ }
+    ensures { λ r. ⌜ DidCycle (probing c t grace time current) len (now (log .entry)) r (now (log .exit)) ⌝ }
 {
     let mut p = c.pendi;
     let moved = t.ladder;
@@ -233,7 +233,7 @@ pub fn probe_due(
     log: &mut [u64; 768],
     len: usize,
 ) -> Cycled
-    ensures { λ r. ⌜ (r .cycle ≡ probeDue c cur current grace tag time .cycle) × (Appends (probeDue c cur current grace tag time .out) len (now (log .entry)) (r .len) (now (log .exit))) ⌝ }
+    ensures { λ r. ⌜ DidCycle (probeDue c cur current grace tag time) len (now (log .entry)) r (now (log .exit)) ⌝ }
 {
     let own = is_own(c, tag);
     let some = and(own, c.pendi.probes.some);
@@ -252,7 +252,7 @@ pub fn probe_due(
 
 // A rung of a delayed cutover's retained final message.
 pub fn delayed_due(c: Cycle, tag: u64, time: u64, log: &mut [u64; 768], len: usize) -> Cycled
-    ensures { λ r. ⌜ (r .cycle ≡ delayedDue c tag time .cycle) × (Appends (delayedDue c tag time .out) len (now (log .entry)) (r .len) (now (log .exit))) ⌝ }
+    ensures { λ r. ⌜ DidCycle (delayedDue c tag time) len (now (log .entry)) r (now (log .exit)) ⌝ }
 {
     let own = is_own(c, tag);
     if and(own, c.pendi.fin.some) {
@@ -282,7 +282,7 @@ pub fn delayed_due(c: Cycle, tag: u64, time: u64, log: &mut [u64; 768], len: usi
 // A rung taken of the current epoch's final message: the last drops it, and a repair falls due if
 // nothing was heard.
 fn fin_taken(cur: MayEpoch, t: Took, log: &mut [u64; 768], len: usize) -> Kept
-    ensures { λ r. ⌜ (r .cur ≡ finTaken cur t .cur) × ((Appends (finTaken cur t .out) len (now (log .entry)) (r .len) (now (log .exit))) × (r .due ≡ finTaken cur t .due)) ⌝ }
+    ensures { λ r. ⌜ DidCur (finTaken cur t) len (now (log .entry)) r (now (log .exit)) ⌝ }
 {
     let n = events::send(log, len, cur.ep.fin.msg, 4);
     let due = and(t.last, !cur.ep.heard.some);
@@ -305,7 +305,7 @@ fn fin_taken(cur: MayEpoch, t: Took, log: &mut [u64; 768], len: usize) -> Kept
 
 // A rung of the current epoch's final message.
 pub fn fin_due(cur: MayEpoch, tag: u64, time: u64, log: &mut [u64; 768], len: usize) -> Kept
-    ensures { λ r. ⌜ (r .cur ≡ finDue cur tag time .cur) × ((Appends (finDue cur tag time .out) len (now (log .entry)) (r .len) (now (log .exit))) × (r .due ≡ finDue cur tag time .due)) ⌝ }
+    ensures { λ r. ⌜ DidCur (finDue cur tag time) len (now (log .entry)) r (now (log .exit)) ⌝ }
 {
     let held = is_tag(cur.some, cur.ep.tag, tag);
     if and(held, cur.ep.fin.some) {
@@ -338,7 +338,7 @@ fn elicit_taken(
     log: &mut [u64; 768],
     len: usize,
 ) -> Kept
-    ensures { λ r. ⌜ (r .cur ≡ elicitTaken cur t tag time .cur) × ((Appends (elicitTaken cur t tag time .out) len (now (log .entry)) (r .len) (now (log .exit))) × (r .due ≡ elicitTaken cur t tag time .due)) ⌝ }
+    ensures { λ r. ⌜ DidCur (elicitTaken cur t tag time) len (now (log .entry)) r (now (log .exit)) ⌝ }
 {
     let n = events::prompt(log, len, tag);
     let moved = t.ladder;
@@ -364,7 +364,7 @@ fn elicit_taken(
 
 // A prompt repeat after a cutover, until the peer is seen to move.
 pub fn elicit_due(cur: MayEpoch, tag: u64, time: u64, log: &mut [u64; 768], len: usize) -> Kept
-    ensures { λ r. ⌜ (r .cur ≡ elicitDue cur tag time .cur) × ((Appends (elicitDue cur tag time .out) len (now (log .entry)) (r .len) (now (log .exit))) × (r .due ≡ elicitDue cur tag time .due)) ⌝ }
+    ensures { λ r. ⌜ DidCur (elicitDue cur tag time) len (now (log .entry)) r (now (log .exit)) ⌝ }
 {
     let held = is_tag(cur.some, cur.ep.tag, tag);
     let waits = and(!cur.ep.moved.some, cur.ep.elicit.some);
@@ -407,7 +407,7 @@ fn resend_taken(
     log: &mut [u64; 768],
     len: usize,
 ) -> Cycled
-    ensures { λ r. ⌜ (r .cycle ≡ resendTaken c t holds young messages .cycle) × (Appends (resendTaken c t holds young messages .out) len (now (log .entry)) (r .len) (now (log .exit))) ⌝ }
+    ensures { λ r. ⌜ DidCycle (resendTaken c t holds young messages) len (now (log .entry)) r (now (log .exit)) ⌝ }
 {
     let moved = t.ladder;
     let mut a = c.init;
@@ -438,7 +438,7 @@ pub fn resend_due(
     log: &mut [u64; 768],
     len: usize,
 ) -> Cycled
-    ensures { λ r. ⌜ (r .cycle ≡ resendDue c holds young messages time .cycle) × (Appends (resendDue c holds young messages time .out) len (now (log .entry)) (r .len) (now (log .exit))) ⌝ }
+    ensures { λ r. ⌜ DidCycle (resendDue c holds young messages time) len (now (log .entry)) r (now (log .exit)) ⌝ }
 {
     if and(c.kind == 1, time < c.init.deadline) {
         let ladder = c.init.ladder;

@@ -2,6 +2,7 @@
 -- `Due`.
 use Prim.Native.Nat.{ℕ, _+_}
 use mathlib.Core.Bool.{Bool, true, false, not}
+use mathlib.Core.Path.{_≡_}
 use mathlib.Core.List.{List, [], _∷_, _++_}
 use lib.Dec.{leb, ltb, eqb}
 use lib.IntN.{ℤ}
@@ -18,16 +19,23 @@ use Rattle.state.specs.declared.State.{State}
 use Rattle.state.specs.declared.Given.{Given}
 use Rattle.state.specs.Parts.{putMem, putCur, putDrain, putCycle, putCands}
 use Rattle.events.specs.Events.{Event, Reject, Abandoned}
+use Rattle.events.specs.Log.{Appends}
 use Rattle.retire.specs.Retire.{only, retireOut}
 use Rattle.rows.specs.Rows.{DrainStep, CycleStep, CurStep, FailStep, and, isOwn, grace, drainDue, unadoptedDue, probeDue, delayedDue, finDue, elicitDue, resendDue, expireDue}
 use Rattle.cutover.specs.declared.Pend.{Pend}
 use Rattle.cutover.specs.Cutover.{CutStep, cutoverOf}
+use Rattle.turn.specs.declared.Ran.{Ran}
 
 -- what an item leaves: the state, its events, and whether the link ends
 pub record Step : Type 0 where
   pub state : State
   pub out : List Event
   pub ends : Bool
+
+-- what a function on the whole state promises that takes such a step: its state, its events behind the
+-- `len` that were in the log, and whether the link ends
+abbrev pub Did : Step → ℕ → List ℕ → Ran → List ℕ → Type 0
+Did t len ws r ws′ = (r .state ≡ t .state) × (Appends (t .out) len ws (r .len) ws′ × (r .ended ≡ t .ends))
 
 abbrev pub stay : State → Step
 stay s = record { state = s; out = []; ends = false }

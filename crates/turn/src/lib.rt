@@ -5,8 +5,7 @@ ghost use mathlib.Core.Bool.{Bool, not};
 ghost use lib.Dec.{ltb, eqb};
 ghost use Rattle.time.specs.Pick.{pick};
 ghost use Rattle.cycle.specs.Kind.{waitsDelay};
-ghost use Rattle.events.specs.Log.{Appends};
-ghost use Rattle.turn.specs.Turn.{candidateDue, cutBy, heldDue, delayEnd, unconfirmed, assumed as assumedStep, confirmDue, lowStep, highStep, otherStep, pendOf, dueMem};
+ghost use Rattle.turn.specs.Turn.{Did, candidateDue, cutBy, heldDue, delayEnd, unconfirmed, assumed as assumedStep, confirmDue, lowStep, highStep, otherStep, pendOf, dueMem};
 ghost use Rattle.rows.specs.Rows.{and as andOf};
 ghost use Rattle.state.specs.Parts.{putMem, putCur};
 use cutover::Pend;
@@ -24,7 +23,7 @@ pub struct Ran {
 
 // A candidate that reached its deadline is dropped.
 pub fn candidate_due(s: State, seq: u64, time: u64, log: &mut [u64; 768], len: usize) -> Ran
-    ensures { λ r. ⌜ (r .state ≡ candidateDue s seq time .state) × ((Appends (candidateDue s seq time .out) len (now (log .entry)) (r .len) (now (log .exit))) × (r .ended ≡ candidateDue s seq time .ends)) ⌝ }
+    ensures { λ r. ⌜ Did (candidateDue s seq time) len (now (log .entry)) r (now (log .exit)) ⌝ }
 {
     let v = s.cands;
     let e = candidates::expire(v, seq, time);
@@ -62,7 +61,7 @@ fn pend_of(c: Cycle) -> Pend
 
 // A cutover without a frame: evidence 0 is Proof, 3 Assumed, 4 Delay.
 fn cut_by(s: State, g: Given, spread: i32, evidence: u64, log: &mut [u64; 768], len: usize) -> Ran
-    ensures { λ r. ⌜ (r .state ≡ cutBy s g spread evidence .state) × ((Appends (cutBy s g spread evidence .out) len (now (log .entry)) (r .len) (now (log .exit))) × (r .ended ≡ cutBy s g spread evidence .ends)) ⌝ }
+    ensures { λ r. ⌜ Did (cutBy s g spread evidence) len (now (log .entry)) r (now (log .exit)) ⌝ }
 {
     let c = s.cycle;
     let p = pend_of(c);
@@ -87,7 +86,7 @@ fn waits_delay(wait: u8) -> bool
 
 // The completion itself proves the peer holds the keys.
 pub fn held_due(s: State, g: Given, spread: i32, tag: u64, log: &mut [u64; 768], len: usize) -> Ran
-    ensures { λ r. ⌜ (r .state ≡ heldDue s g spread tag .state) × ((Appends (heldDue s g spread tag .out) len (now (log .entry)) (r .len) (now (log .exit))) × (r .ended ≡ heldDue s g spread tag .ends)) ⌝ }
+    ensures { λ r. ⌜ Did (heldDue s g spread tag) len (now (log .entry)) r (now (log .exit)) ⌝ }
 {
     let c = s.cycle;
     let own = rows::is_own(c, tag);
@@ -104,7 +103,7 @@ pub fn held_due(s: State, g: Given, spread: i32, tag: u64, log: &mut [u64; 768],
 
 // A delayed cutover's deadline.
 pub fn delay_end(s: State, g: Given, spread: i32, tag: u64, log: &mut [u64; 768], len: usize) -> Ran
-    ensures { λ r. ⌜ (r .state ≡ delayEnd s g spread tag .state) × ((Appends (delayEnd s g spread tag .out) len (now (log .entry)) (r .len) (now (log .exit))) × (r .ended ≡ delayEnd s g spread tag .ends)) ⌝ }
+    ensures { λ r. ⌜ Did (delayEnd s g spread tag) len (now (log .entry)) r (now (log .exit)) ⌝ }
 {
     let c = s.cycle;
     let own = rows::is_own(c, tag);
@@ -128,7 +127,7 @@ fn cause(reverted: bool) -> u64
 }
 
 fn unconfirmed_due(s: State, log: &mut [u64; 768], len: usize) -> Ran
-    ensures { λ r. ⌜ (r .state ≡ unconfirmed s .state) × ((Appends (unconfirmed s .out) len (now (log .entry)) (r .len) (now (log .exit))) × (r .ended ≡ unconfirmed s .ends)) ⌝ }
+    ensures { λ r. ⌜ Did (unconfirmed s) len (now (log .entry)) r (now (log .exit)) ⌝ }
 {
     let ep = s.cycle.pendi.ep;
     let a = retire::retire(ep, log, len);
@@ -145,7 +144,7 @@ fn unconfirmed_due(s: State, log: &mut [u64; 768], len: usize) -> Ran
 }
 
 fn assumed_due(s: State, g: Given, spread: i32, log: &mut [u64; 768], len: usize) -> Ran
-    ensures { λ r. ⌜ (r .state ≡ assumedStep s g spread .state) × ((Appends (assumedStep s g spread .out) len (now (log .entry)) (r .len) (now (log .exit))) × (r .ended ≡ assumedStep s g spread .ends)) ⌝ }
+    ensures { λ r. ⌜ Did (assumedStep s g spread) len (now (log .entry)) r (now (log .exit)) ⌝ }
 {
     let t = cut_by(s, g, spread, 3, log, len);
     let mut s2 = t.state;
@@ -174,7 +173,7 @@ pub fn confirm_due(
     log: &mut [u64; 768],
     len: usize,
 ) -> Ran
-    ensures { λ r. ⌜ (r .state ≡ confirmDue s g spread tag .state) × ((Appends (confirmDue s g spread tag .out) len (now (log .entry)) (r .len) (now (log .exit))) × (r .ended ≡ confirmDue s g spread tag .ends)) ⌝ }
+    ensures { λ r. ⌜ Did (confirmDue s g spread tag) len (now (log .entry)) r (now (log .exit)) ⌝ }
 {
     let c = s.cycle;
     let own = rows::is_own(c, tag);
@@ -222,7 +221,7 @@ fn low(
     log: &mut [u64; 768],
     len: usize,
 ) -> Ran
-    ensures { λ r. ⌜ (r .state ≡ lowStep s g spread kind key .state) × ((Appends (lowStep s g spread kind key .out) len (now (log .entry)) (r .len) (now (log .exit))) × (r .ended ≡ lowStep s g spread kind key .ends)) ⌝ }
+    ensures { λ r. ⌜ Did (lowStep s g spread kind key) len (now (log .entry)) r (now (log .exit)) ⌝ }
 {
     if kind == 0 {
         let d = s.drain;
@@ -301,7 +300,7 @@ fn high(
     log: &mut [u64; 768],
     len: usize,
 ) -> Ran
-    ensures { λ r. ⌜ (r .state ≡ highStep s g spread kind key .state) × ((Appends (highStep s g spread kind key .out) len (now (log .entry)) (r .len) (now (log .exit))) × (r .ended ≡ highStep s g spread kind key .ends)) ⌝ }
+    ensures { λ r. ⌜ Did (highStep s g spread kind key) len (now (log .entry)) r (now (log .exit)) ⌝ }
 {
     if kind == 6 {
         let cur = s.cur;
@@ -357,7 +356,7 @@ pub fn other(
     log: &mut [u64; 768],
     len: usize,
 ) -> Ran
-    ensures { λ r. ⌜ (r .state ≡ otherStep s g spread kind key .state) × ((Appends (otherStep s g spread kind key .out) len (now (log .entry)) (r .len) (now (log .exit))) × (r .ended ≡ otherStep s g spread kind key .ends)) ⌝ }
+    ensures { λ r. ⌜ Did (otherStep s g spread kind key) len (now (log .entry)) r (now (log .exit)) ⌝ }
 {
     if kind < 6 {
         low(s, g, spread, kind, key, log, len)

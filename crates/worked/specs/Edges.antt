@@ -27,13 +27,13 @@ use Rattle.deliver.specs.Deliver.{reaches, deliverOut}
 use Rattle.evidence.specs.Evidence.{blindTo, promptDue, movesNow, heardFirst, movedFirst, promptedNow, heardEpoch}
 use Rattle.hear.specs.Hear.{hearing, heardCurrent}
 use Rattle.frame.specs.Frame.{slotTag, currentFrame, slotFrame, frameOf}
-use Rattle.frames.specs.Frames.{FrameAnswer, heardTests, frameRefused, givenOf, frameAnswer}
-use Rattle.reply.specs.declared.Replied.{Replied}
+use Rattle.answer.specs.Outcome.{Outcome, outcomeBy}
+use Rattle.frames.specs.Frames.{heardTests, frameRefused, givenOf, frameAnswer}
 use Rattle.reply.specs.Reply.{repliedTests, replyRefused, replyOf}
 use Rattle.calls.specs.Blank.{noIndex, noFinal, noRepeats, noDrain, idle, noCandidates}
 use Rattle.calls.specs.Open.{newMemory, firstEpoch, alone, freshState}
 use Rattle.calls.specs.Told.{toldState}
-use Rattle.poll.specs.Poll.{Poll, acceptedPoll, pollOf}
+use Rattle.poll.specs.Poll.{acceptedPoll, pollOf}
 
 -- ---- the calls
 
@@ -65,15 +65,15 @@ candidatesOf n deadline =
     }
 
 -- a poll while n candidates wait until 7000
-abbrev polled : ℕ → ℕ → Poll
+abbrev polled : ℕ → ℕ → Outcome
 polled n now = pollOf (putCands (opened 1000) (candidatesOf n 7000)) fmp profile now false (pos 0) 0
 
 -- a start reply where the floors have passed and the soft limit is met, with that sent count
-abbrev replied : ℕ → Replied
+abbrev replied : ℕ → Outcome
 replied sent = replyOf (toldState (opened 0) sent) fmp profile 31000 (record { opened = true; hs = 1; msg = 2; transport = 3; lease = noIndex })
 
 -- a probe under the current epoch, last prompted at 5000: it is blind
-abbrev probed : ℕ → FrameAnswer
+abbrev probed : ℕ → Outcome
 probed now = frameAnswer (opened 5000) fmp profile now false (pos 0) (record { tag = 1; slot = 0; counter = 7; k = false; len = 0; probe = true }) 0 [] []
 
 -- ---- the edges
@@ -83,7 +83,7 @@ abbrev pub Deadline : Type 0
 Deadline = (polled 1 7000 .count ≡ 1) × (polled 1 6999 .count ≡ 0)
 
 deadline : Deadline
-unfolding fold range kept least failing firstAt settings·placeOf heldOf candidates·placeOf between candAt heldBy expiredIn choosing others removedOf expireOf among repeated insert sorted listedIn pendingOf epochsOf epochLadders cycleLadders allLadders laddersOf anyOf profileBad epochsBadOf numbersBad laddersBad spreadBad first givenTests stateTests pollTests mayInstants finInstants elicitInstants drainItems candidateItems cycleItems currentItems named dueItems candidateDue itemStep fresh passItems runItem passOf passesOf threePasses noFinal noRepeats noDrain idle firstEpoch alone freshState acceptedPoll pollOf
+unfolding fold range kept least failing firstAt settings·placeOf heldOf candidates·placeOf between candAt heldBy expiredIn choosing others removedOf expireOf among repeated insert sorted listedIn pendingOf epochsOf epochLadders cycleLadders allLadders laddersOf anyOf profileBad epochsBadOf numbersBad laddersBad spreadBad first givenTests stateTests pollTests mayInstants finInstants elicitInstants drainItems candidateItems cycleItems currentItems named dueItems candidateDue itemStep fresh passItems runItem passOf passesOf threePasses noFinal noRepeats noDrain idle firstEpoch alone freshState acceptedPoll pollOf outcomeBy
 deadline = (refl, refl)
 
 -- "A start reply with one below `hard` sent may pass."
@@ -91,7 +91,7 @@ abbrev pub BelowHard : Type 0
 BelowHard = (replied (fmp .hard - 1) .number ≡ 0) × (replied (fmp .hard) .number ≡ 10)
 
 below-hard : BelowHard
-unfolding range least failing firstAt settings·placeOf heldOf between among repeated pendingOf epochsOf epochLadders cycleLadders allLadders laddersOf anyOf profileBad epochsBadOf numbersBad laddersBad first givenTests stateTests replyTests floorsPassed dampedNow backedNow triggeredNow scheduledNow kindOf mayStart startKind calledFor repliedTests replyRefused replyOf toldState noFinal noRepeats noDrain idle noCandidates newMemory firstEpoch alone freshState
+unfolding range least failing firstAt settings·placeOf heldOf between among repeated pendingOf epochsOf epochLadders cycleLadders allLadders laddersOf anyOf profileBad epochsBadOf numbersBad laddersBad first givenTests stateTests replyTests floorsPassed dampedNow backedNow triggeredNow scheduledNow kindOf mayStart startKind calledFor repliedTests replyRefused replyOf toldState noFinal noRepeats noDrain idle noCandidates newMemory firstEpoch alone freshState outcomeBy
 below-hard = (refl, refl)
 
 -- "A blind probe last prompted at 5000 draws no prompt at 5999 and one at 6000."
@@ -99,7 +99,7 @@ abbrev pub PromptGap : Type 0
 PromptGap = (probed 5999 .out ≡ Mark 1 7 ∷ Deliver 0 1 0 0 ∷ []) × (probed 6000 .out ≡ Mark 1 7 ∷ Deliver 0 1 0 0 ∷ Prompt 1 ∷ [])
 
 prompt-gap : PromptGap
-unfolding range least laterOf failing firstAt settings·placeOf heldOf between among repeated pendingOf epochsOf epochLadders cycleLadders allLadders laddersOf anyOf profileBad epochsBadOf numbersBad laddersBad spreadBad first givenTests stateTests frameTests reaches deliverOut blindTo promptDue movesNow heardFirst movedFirst promptedNow heardEpoch hearing heardCurrent slotTag currentFrame slotFrame frameOf heardTests frameRefused givenOf frameAnswer noFinal noRepeats noDrain idle noCandidates firstEpoch alone freshState
+unfolding range least laterOf failing firstAt settings·placeOf heldOf between among repeated pendingOf epochsOf epochLadders cycleLadders allLadders laddersOf anyOf profileBad epochsBadOf numbersBad laddersBad spreadBad first givenTests stateTests frameTests reaches deliverOut blindTo promptDue movesNow heardFirst movedFirst promptedNow heardEpoch hearing heardCurrent slotTag currentFrame slotFrame frameOf heardTests frameRefused givenOf frameAnswer noFinal noRepeats noDrain idle noCandidates firstEpoch alone freshState outcomeBy
 prompt-gap = (refl, refl)
 
 -- "32 candidates pass, 33 do not."
@@ -107,7 +107,7 @@ abbrev pub ManyCandidates : Type 0
 ManyCandidates = (polled 32 6999 .number ≡ 0) × (polled 33 6999 .number ≡ 3)
 
 candidates : ManyCandidates
-unfolding range least failing firstAt settings·placeOf heldOf between among repeated pendingOf epochsOf epochLadders cycleLadders allLadders laddersOf anyOf profileBad epochsBadOf numbersBad laddersBad spreadBad first givenTests stateTests pollTests noFinal noRepeats noDrain idle firstEpoch alone freshState acceptedPoll pollOf
+unfolding range least failing firstAt settings·placeOf heldOf between among repeated pendingOf epochsOf epochLadders cycleLadders allLadders laddersOf anyOf profileBad epochsBadOf numbersBad laddersBad spreadBad first givenTests stateTests pollTests noFinal noRepeats noDrain idle firstEpoch alone freshState acceptedPoll pollOf outcomeBy
 candidates = (refl, refl)
 
 pub record Edges : Type 0 where

@@ -59,12 +59,13 @@ use Rattle.calls.specs.Open.{alone as calls·alone}
 use Rattle.pass.specs.Pass.{runItem, passOf}
 use Rattle.passes.specs.Passes.{passesOf, threePasses}
 use Rattle.closing.specs.Closing.{idleNow, testsOut, endsNow, startOut, offerOut, going, waitsFor, sealing, closing}
+use Rattle.answer.specs.Outcome.{outcomeBy}
 use Rattle.poll.specs.Poll.{acceptedPoll, pollOf}
 use Rattle.deliver.specs.Deliver.{reaches, deliverOut, deliverInto}
 use Rattle.evidence.specs.Evidence.{blindTo, promptDue, staying, movesNow, heardFirst, heardCands, movedFirst, shortened, promptedNow, stayedNow, heardEpoch, unassumed, revertedPend, heardAny, onlyAssumed, confirming}
 use Rattle.hear.specs.Hear.{hearing, heardCurrent, revertOf, assumedHeard, confirmingHeard, heardPrevious}
 use Rattle.frame.specs.Frame.{pendingTag, slotTag, endedOut, pendOf, pendingFrame, currentFrame, previousFrame, slotFrame, frameOf}
-use Rattle.frames.specs.Frames.{heardTests, frameRefused, givenOf, frameAnswer}
+use Rattle.frames.specs.Frames.{heardTests, frameRefused, givenOf, frameAnswer, frameTarget}
 use Rattle.calls.specs.Blank.{noLadder, noFinal, noRepeats, noEpoch, noDrain, noAttempt, noPendI, noPendR, idle, noCandidates}
 use Rattle.calls.specs.Told.{belowHeld, toldTests, toldNumber, toldState, toldOf}
 
@@ -271,7 +272,7 @@ pub record Seen : Type 0 where
   pub goes-on : accepted link (pollAt 1500) pair ≡ true
 
 pub seen : Seen
-unfolding fold range kept takeWhile laterOf satAdd satMul least most factorOf backoffOf sumOf laterByOf soonerOf lostOf losing ladder·pushed events·pushed putOf ladder·offered listing·offered remaining nextAtOf dueRungs taking takeOf instantOf cut doubled doublingOf keepalives filled probesOf bitsOf laid madeOf rungAt ladder·heldOf candidates·heldOf rungsOf lastOf lastSendOf failing firstAt settings·placeOf candidates·placeOf lastOffset msg1Span confirmOf spanOf rungOf gapOf budgetOf firstMade finMade probesMade revertMade elicitMade delayedMade graceOf withHoldOf between candAt heldBy without expiredIn earliestOf chosen choosing others removedOf keptAfter clearedOf expireOf moved among repeated risesFrom itemsFrom opened listFrom before insert sorted listedIn pendingOf epochsOf epochLadders cycleLadders allLadders laddersOf ladderView epochView attemptView pendIView pendRView cycleView candidateView candidatesView memoryView stands at stored events·takenOf reply·takenOf placesOf held events·anyOf refusal·anyOf offeredIn anyFrom sealable wordsStay retireOut abandonOut offerable delegateOut triggerOf silenceInterval latestOf latestIn triggerAt silenceAt floorsPassed floorEnds dampedEnds backedEnds silenceWaits dampedNow backedNow triggeredNow scheduledNow silentNow kindOf scheduledWaits atOf mayStart startKind startAt calledFor ladderInstants mayInstants finInstants elicitInstants drainItems candidateItems pendingItems cycleItems currentItems named dueItems anyDue currentInstants standing openingIdle teardownStands offerOwed heldSomething exhausted cycleInstants storedInstants wakeInstants wakeOf rising profileBad isPending epochsBadOf numbersBad ladderBad laddersBad spreadBad first givenTests stateTests pollTests frameTests replyTests stateBack sharedOf tagsBad pendingEp standingBad eitherBad epochBad heldBad cycleBad isTag isOwn isPeers grace drainDue unadoptedDue lateFor probing probeDue delayedDue finTaken finDue elicitTaken elicitDue resendTaken resendDue abandonedMem expireDue prunes pruned demoted givenUp spent keptFin heardNow adopted heardFrame cutMemory remembered announced cutoverOf candidateDue cutBy heldDue delayEnd unconfirmed assumed confirmDue holds turn·alone calls·alone lowStep highStep otherStep itemStep fresh passItems runItem passOf passesOf threePasses idleNow testsOut endsNow startOut offerOut going waitsFor sealing closing acceptedPoll pollOf reaches deliverOut deliverInto blindTo promptDue staying movesNow heardFirst heardCands movedFirst shortened promptedNow stayedNow heardEpoch unassumed revertedPend heardAny onlyAssumed confirming hearing heardCurrent revertOf assumedHeard confirmingHeard heardPrevious pendingTag slotTag endedOut pendOf pendingFrame currentFrame previousFrame slotFrame frameOf heardTests frameRefused givenOf frameAnswer setupRtt setupFirst setupSched attemptSched attemptTime attemptOf raisesSilence silenceAfter memoryAfter startedOf repliedTests replyRefused replyOf noLadder noFinal noRepeats noEpoch noDrain noAttempt noPendI noPendR idle noCandidates belowHeld toldTests toldNumber toldState toldOf
+unfolding fold range kept takeWhile laterOf satAdd satMul least most factorOf backoffOf sumOf laterByOf soonerOf lostOf losing ladder·pushed events·pushed putOf ladder·offered listing·offered remaining nextAtOf dueRungs taking takeOf instantOf cut doubled doublingOf keepalives filled probesOf bitsOf laid madeOf rungAt ladder·heldOf candidates·heldOf rungsOf lastOf lastSendOf failing firstAt settings·placeOf candidates·placeOf lastOffset msg1Span confirmOf spanOf rungOf gapOf budgetOf firstMade finMade probesMade revertMade elicitMade delayedMade graceOf withHoldOf between candAt heldBy without expiredIn earliestOf chosen choosing others removedOf keptAfter clearedOf expireOf moved among repeated risesFrom itemsFrom opened listFrom before insert sorted listedIn pendingOf epochsOf epochLadders cycleLadders allLadders laddersOf ladderView epochView attemptView pendIView pendRView cycleView candidateView candidatesView memoryView stands at stored events·takenOf reply·takenOf placesOf held events·anyOf refusal·anyOf offeredIn anyFrom sealable wordsStay retireOut abandonOut offerable delegateOut triggerOf silenceInterval latestOf latestIn triggerAt silenceAt floorsPassed floorEnds dampedEnds backedEnds silenceWaits dampedNow backedNow triggeredNow scheduledNow silentNow kindOf scheduledWaits atOf mayStart startKind startAt calledFor ladderInstants mayInstants finInstants elicitInstants drainItems candidateItems pendingItems cycleItems currentItems named dueItems anyDue currentInstants standing openingIdle teardownStands offerOwed heldSomething exhausted cycleInstants storedInstants wakeInstants wakeOf rising profileBad isPending epochsBadOf numbersBad ladderBad laddersBad spreadBad first givenTests stateTests pollTests frameTests replyTests stateBack sharedOf tagsBad pendingEp standingBad eitherBad epochBad heldBad cycleBad isTag isOwn isPeers grace drainDue unadoptedDue lateFor probing probeDue delayedDue finTaken finDue elicitTaken elicitDue resendTaken resendDue abandonedMem expireDue prunes pruned demoted givenUp spent keptFin heardNow adopted heardFrame cutMemory remembered announced cutoverOf candidateDue cutBy heldDue delayEnd unconfirmed assumed confirmDue holds turn·alone calls·alone lowStep highStep otherStep itemStep fresh passItems runItem passOf passesOf threePasses idleNow testsOut endsNow startOut offerOut going waitsFor sealing closing acceptedPoll pollOf reaches deliverOut deliverInto blindTo promptDue staying movesNow heardFirst heardCands movedFirst shortened promptedNow stayedNow heardEpoch unassumed revertedPend heardAny onlyAssumed confirming hearing heardCurrent revertOf assumedHeard confirmingHeard heardPrevious pendingTag slotTag endedOut pendOf pendingFrame currentFrame previousFrame slotFrame frameOf heardTests frameRefused givenOf frameAnswer setupRtt setupFirst setupSched attemptSched attemptTime attemptOf raisesSilence silenceAfter memoryAfter startedOf repliedTests replyRefused replyOf noLadder noFinal noRepeats noEpoch noDrain noAttempt noPendI noPendR idle noCandidates belowHeld toldTests toldNumber toldState toldOf outcomeBy frameTarget
 seen =
     record {
       passes = refl;

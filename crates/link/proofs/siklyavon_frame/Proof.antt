@@ -12,7 +12,10 @@ same-length : tie.Need-same-length
 same-length c = search needs
 
 returns : tie.Need-returns
-returns c = (simp (toZ-ofZ (c .before .before .before .before .before .before .before .fits .spread)) at (c .before .before .frame .ensures .0), (frame-exact _ _ _ _ _ _ _ _ _ _, two-runs))
+returns c =
+    let z = toZ-ofZ (c .before .before .before .before .before .before .before .fits .spread) in
+    let f = c .before .before .frame in
+    (simp z at (f .ensures .0), (simp z at (f .ensures .1 .0), (frame-exact _ _ _ _ _ _ _ _ _ _, two-runs)))
 
 pub siklyavon-frame-spec : {M : Type 1} → statement M
 siklyavon-frame-spec = tie.close (tie.spec frame-requires same-length returns)
