@@ -1,20 +1,13 @@
 -- What the code of every call promises: the answer, field by field, and the words of the log.
-use Prim.Native.Nat.{ℕ, _≤_}
-use mathlib.Core.Path.{_≡_, refl, sym, _∙_, ap, subst}
+use Prim.Native.Nat.{ℕ}
+use mathlib.Core.Path.{_≡_, sym, _∙_, ap, subst}
 use mathlib.Core.List.{List, []}
-use native.Mathlib.Omega.{arith}
-use borrow.Author.Tests.{eq-eqb, ne-eqb}
-use lib.Dec.{eqb}
-use lib.ListN.{length}
-use Rattle.time.specs.Pick.{pick}
-use Rattle.events.specs.Events.{Event}
-use Rattle.events.specs.Log.{at, logged, Appends}
 use Rattle.state.specs.declared.State.{State}
 use Rattle.refusal.specs.declared.Refused.{Refused}
 use Rattle.answer.specs.declared.Answer.{Answer}
-use Rattle.answer.specs.Outcome.{Outcome, sentBack, finished, done, outcomeBy}
-use Rattle.answer.specs.Written.{over, Written}
-use Rattle.answer.specs.Laws.{written, written-all, written-none, by-back, by-taken}
+use Rattle.answer.specs.Outcome.{Outcome, done, outcomeBy}
+use Rattle.answer.specs.Written.{Written}
+use Rattle.answer.specs.Laws.{written-none, by-back, by-taken}
 
 -- ws are the lent words before the call and ws′ those after it; a call that is lent none has []
 pub record Answers (o : Outcome) (r : Answer) (ws ws′ : List ℕ) : Type 0 where

@@ -1,5 +1,5 @@
 -- That the log which a call fills is what `Written` says, and laws of the two ways out of a call.
-use Prim.Native.Nat.{ℕ, zero, suc, _≤_, _<_, _+_, _*_}
+use Prim.Native.Nat.{ℕ, suc, _≤_, _+_, _*_}
 use mathlib.Core.Bool.{Bool, true, false}
 use mathlib.Core.Path.{_≡_, refl, sym, _∙_, ap, ap₂, subst}
 use mathlib.Core.List.{List, [], _∷_, _++_, map}

@@ -1,6 +1,6 @@
 // A block of the replay format: the calls in it answered, and its end. No public function has a
 // `requires`.
-use answer::Answer;
+use calling::Verdict;
 use libc::STDOUT_FILENO;
 use lines::Output;
 
@@ -66,11 +66,11 @@ pub fn answer(line: &[u8], out: &mut [u8], step: Step, v: &mut [u64; 655], index
 fn answer_open(out: &mut [u8], o: Output, block: Block, v: &mut [u64; 655]) -> Step {
     let mut log = [0u64; 768];
     let mut left = [0u64; 655];
-    let answer = calling::open(v, &mut left, &mut log);
-    if answer.number != 0 {
-        return refused(out, o, block, answer.number, answer.place);
+    let verdict = calling::open(v, &mut left, &mut log);
+    if verdict.number != 0 {
+        return refused(out, o, block, verdict.number, verdict.place);
     }
-    let told = answers::write_events(out, o, &log, answer.len);
+    let told = answers::write_events(out, o, &log, verdict.len);
     let mut opened = block;
     opened.state = either(block.state, block.run);
     opened.claim = 0;
@@ -80,12 +80,12 @@ fn answer_open(out: &mut [u8], o: Output, block: Block, v: &mut [u64; 655]) -> S
 fn answer_poll(out: &mut [u8], o: Output, block: Block, v: &mut [u64; 655]) -> Step {
     let mut log = [0u64; 768];
     let mut left = [0u64; 655];
-    let answer = calling::poll(v, &mut left, &mut log);
-    if answer.number != 0 {
-        return refused(out, o, block, answer.number, answer.place);
+    let verdict = calling::poll(v, &mut left, &mut log);
+    if verdict.number != 0 {
+        return refused(out, o, block, verdict.number, verdict.place);
     }
-    let told = answers::write_events(out, o, &log, answer.len);
-    let w = [answer.count as u64, 0, 0, 0, 0, 0, 0, 0];
+    let told = answers::write_events(out, o, &log, verdict.len);
+    let w = [verdict.count as u64, 0, 0, 0, 0, 0, 0, 0];
     let counted = answers::write(out, told, answers::COUNT, &w);
     leave(out, counted, block, v, &left)
 }
@@ -101,8 +101,8 @@ pub fn answer_frame(
     let mut log = [0u64; 768];
     let mut left = [0u64; 655];
     let o = copied(line, out, step.o);
-    let answer = calling::frame(v, &mut left, &mut log, source, target);
-    write_frame(out, o, step.block, v, target, &left, &log, answer)
+    let verdict = calling::frame(v, &mut left, &mut log, source, target);
+    write_frame(out, o, step.block, v, target, &left, &log, verdict)
 }
 
 fn write_frame(
@@ -113,12 +113,12 @@ fn write_frame(
     target: &[u8],
     left: &[u64; 655],
     log: &[u64; 768],
-    answer: Answer,
+    verdict: Verdict,
 ) -> Step {
-    if answer.number != 0 {
-        return refused(out, o, block, answer.number, answer.place);
+    if verdict.number != 0 {
+        return refused(out, o, block, verdict.number, verdict.place);
     }
-    let told = answers::write_events(out, o, log, answer.len);
+    let told = answers::write_events(out, o, log, verdict.len);
     let shown = write_buffer(out, told, target);
     leave(out, shown, block, v, left)
 }
@@ -131,18 +131,18 @@ fn write_buffer(out: &mut [u8], o: Output, target: &[u8]) -> Output {
 
 fn answer_reply(out: &mut [u8], o: Output, block: Block, v: &mut [u64; 655]) -> Step {
     let mut left = [0u64; 655];
-    let answer = calling::reply(v, &mut left);
-    if answer.number != 0 {
-        return refused(out, o, block, answer.number, answer.place);
+    let verdict = calling::reply(v, &mut left);
+    if verdict.number != 0 {
+        return refused(out, o, block, verdict.number, verdict.place);
     }
     leave(out, o, block, v, &left)
 }
 
 fn answer_sent(out: &mut [u8], o: Output, block: Block, v: &mut [u64; 655]) -> Step {
     let mut left = [0u64; 655];
-    let answer = calling::sent(v, &mut left);
-    if answer.number != 0 {
-        return refused(out, o, block, answer.number, answer.place);
+    let verdict = calling::sent(v, &mut left);
+    if verdict.number != 0 {
+        return refused(out, o, block, verdict.number, verdict.place);
     }
     leave(out, o, block, v, &left)
 }

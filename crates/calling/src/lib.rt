@@ -6,8 +6,28 @@ use frame::FrameProof;
 use reply::StartReply;
 use time::When;
 
+// What is written of an answer: the number that sends a call back and its place, or 0 and 0; how many
+// events were told, and how many items were listed.
+pub struct Verdict {
+    pub number: u8,
+    pub place: u8,
+    pub len: usize,
+    pub count: usize,
+}
+
+// Keeps an answer's state in the row, and tells the rest of it.
+fn keep(left: &mut [u64; 655], r: Answer) -> Verdict {
+    records::keep(left, r.state);
+    Verdict {
+        number: r.number,
+        place: r.place,
+        len: r.len,
+        count: r.count,
+    }
+}
+
 // `open now role transport lease workers spread`
-pub fn open(v: &[u64; 655], left: &mut [u64; 655], log: &mut [u64; 768]) -> Answer {
+pub fn open(v: &[u64; 655], left: &mut [u64; 655], log: &mut [u64; 768]) -> Verdict {
     let cfg = records::config_of(v);
     let profile = records::profile_of(v);
     let lease = form::index_at(v, ARGS, 3);
@@ -22,12 +42,11 @@ pub fn open(v: &[u64; 655], left: &mut [u64; 655], log: &mut [u64; 768]) -> Answ
         form::number_at(v, ARGS, 0),
         log,
     );
-    records::keep(left, r.state);
-    r
+    keep(left, r)
 }
 
 // `poll now workers spread extra`
-pub fn poll(v: &[u64; 655], left: &mut [u64; 655], log: &mut [u64; 768]) -> Answer {
+pub fn poll(v: &[u64; 655], left: &mut [u64; 655], log: &mut [u64; 768]) -> Verdict {
     let s = records::state_of(v);
     let cfg = records::config_of(v);
     let profile = records::profile_of(v);
@@ -41,8 +60,7 @@ pub fn poll(v: &[u64; 655], left: &mut [u64; 655], log: &mut [u64; 768]) -> Answ
         extra(v),
         log,
     );
-    records::keep(left, r.state);
-    r
+    keep(left, r)
 }
 
 // The extra of a poll. One below 0 is outside of every setting, as the largest is.
@@ -61,7 +79,7 @@ pub fn frame(
     log: &mut [u64; 768],
     source: &[u8],
     target: &mut [u8],
-) -> Answer {
+) -> Verdict {
     let s = records::state_of(v);
     let cfg = records::config_of(v);
     let profile = records::profile_of(v);
@@ -79,8 +97,7 @@ pub fn frame(
         target,
         log,
     );
-    records::keep(left, r.state);
-    r
+    keep(left, r)
 }
 
 fn frame_proof(v: &[u64; 655]) -> FrameProof {
@@ -95,14 +112,13 @@ fn frame_proof(v: &[u64; 655]) -> FrameProof {
 }
 
 // `reply now opened hs msg transport lease`
-pub fn reply(v: &[u64; 655], left: &mut [u64; 655]) -> Answer {
+pub fn reply(v: &[u64; 655], left: &mut [u64; 655]) -> Verdict {
     let s = records::state_of(v);
     let cfg = records::config_of(v);
     let profile = records::profile_of(v);
     let told = start_reply(v);
     let r = reply::reply(s, cfg, profile, form::number_at(v, ARGS, 0), told);
-    records::keep(left, r.state);
-    r
+    keep(left, r)
 }
 
 fn start_reply(v: &[u64; 655]) -> StartReply {
@@ -117,11 +133,10 @@ fn start_reply(v: &[u64; 655]) -> StartReply {
 }
 
 // `sent now count`
-pub fn sent(v: &[u64; 655], left: &mut [u64; 655]) -> Answer {
+pub fn sent(v: &[u64; 655], left: &mut [u64; 655]) -> Verdict {
     let s = records::state_of(v);
     let r = calls::told(s, form::number_at(v, ARGS, 0), form::number_at(v, ARGS, 1));
-    records::keep(left, r.state);
-    r
+    keep(left, r)
 }
 
 // `wake`. Puts the words of the answer and answers its form.

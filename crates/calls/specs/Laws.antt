@@ -1,7 +1,6 @@
 -- Laws of `open` and of the told sent count.
 use Prim.Native.Nat.{ℕ, zero, suc, _≤_}
 use mathlib.Core.Bool.{Bool, true, false, _&&_}
-use mathlib.Core.Logic.{_↔_}
 use mathlib.Core.Path.{_≡_, refl, _∙_, ap}
 use mathlib.Core.List.{[], _∷_, _++_}
 use native.Mathlib.Omega.{arith}
@@ -26,7 +25,6 @@ use Rattle.events.specs.Numbers.{purposeCurrent}
 use Rattle.retire.specs.Retire.{only, offerable, floorTold, delegateOut}
 use Rattle.refusal.specs.declared.Refused.{Refused}
 use Rattle.refusal.specs.Refusal.{anyOf, isPending, epochsBadOf, epochsBad, candsBad, numbersBad, laddersBad, numbered, first, by, stateTests, stateBack, beforeOpen}
-use Rattle.refusal.specs.First.{rising, backAt, backBelow, exactly}
 use Rattle.answer.specs.Outcome.{done}
 use Rattle.answer.specs.Laws.{by-either, by-refused}
 use Rattle.calls.specs.Blank.{noIndex, noFinal, noRepeats, noCurrent, noDrain, idle, noCandidates}

@@ -2,7 +2,7 @@
 -- settings, profile, role, transport, lease or none, worker flag and spread."
 use Prim.Native.Nat.{ℕ}
 use mathlib.Core.Bool.{Bool, true, false}
-use mathlib.Core.List.{List, [], _∷_, _++_}
+use mathlib.Core.List.{List, _∷_, _++_}
 use lib.IntN.{ℤ, pos}
 use Rattle.time.specs.declared.When.{When}
 use Rattle.time.specs.Pick.{pick}

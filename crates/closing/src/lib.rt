@@ -1,10 +1,9 @@
 // What a poll does after its passes (machine.rs, the end of `poll`, and `withdraw`): the teardown
 // tests, the start, the offers, and the prompts that can be sealed no more. The state stays.
 ghost use mathlib.Core.Path.{_≡_};
-ghost use mathlib.Core.Bool.{not, _&&_, _||_};
+ghost use mathlib.Core.Bool.{_||_};
 ghost use Rattle.events.specs.Log.{Appends, at};
 ghost use Rattle.events.specs.Events.{Teardown};
-ghost use Rattle.events.specs.Withdraw.{given, withdrawn};
 ghost use Rattle.retire.specs.Retire.{only};
 ghost use Rattle.closing.specs.Closing.{idleNow, testsOut, endsNow, startOut, waitsFor};
 ghost use Rattle.closing.specs.Logs.{offerLog, goLog, closedLog};

@@ -1,11 +1,10 @@
 // `cutover` of machine.rs: a pending epoch becomes current, part by part.
 ghost use mathlib.Core.Path.{_≡_};
 ghost use mathlib.Core.Bool.{Bool};
-ghost use mathlib.Core.List.{[], _∷_, _++_};
 ghost use Rattle.time.specs.Pick.{pick};
 ghost use Rattle.time.specs.Time.{at as whenAt};
 ghost use Rattle.events.specs.Log.{Appends};
-ghost use Rattle.cutover.specs.Cutover.{isFrame, isDelay, prunes as prunesOf, pruned, demoted, givenUp, spent as spentOf, keptFin, heardNow, adopted, remembered, announced, heardFrame, cutoverOf};
+ghost use Rattle.cutover.specs.Cutover.{isFrame, prunes as prunesOf, pruned, demoted, givenUp, spent as spentOf, keptFin, heardNow, adopted, remembered, announced, heardFrame, cutoverOf};
 ghost use Rattle.params.specs.Params.{elicitMade};
 ghost use Rattle.ladder.specs.Ladder.{anew, nextAtOf};
 ghost use Rattle.events.specs.Events.{PeerRestarted};

@@ -5,7 +5,7 @@
 // specs/Numbers.antt the number of each enum's case. The caller keeps the length: each function
 // takes it and answers the new one.
 ghost use mathlib.Core.Path.{_≡_};
-ghost use mathlib.Core.List.{List, [], _∷_};
+ghost use mathlib.Core.List.{[], _∷_};
 ghost use Prim.Native.Nat.{_<_};
 ghost use Rattle.events.specs.Numbers.{bit as bitOf};
 ghost use Rattle.events.specs.Events.{Send, Prompt, Deliver, Bind, Unbind, Delegate, Revoke, Release, Installed, Retired, Reverted, PeerRestarted, Rekeyed, Reject, Abandoned, Teardown, Mark, Start, Ended};

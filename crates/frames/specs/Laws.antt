@@ -1,22 +1,19 @@
 -- Laws of a frame's answer.
-use Prim.Native.Nat.{ℕ, zero, suc, _≤_, _<_}
-use mathlib.Core.Bool.{Bool, true, false, not, _&&_, false≢true}
-use mathlib.Core.Logic.{_↔_}
-use mathlib.Core.Path.{_≡_, refl, sym, _∙_, ap}
-use mathlib.Core.List.{List, [], _∷_, _++_}
+use Prim.Native.Nat.{ℕ, _≤_}
+use mathlib.Core.Bool.{Bool, true, false, not}
+use mathlib.Core.Path.{_≡_, refl, _∙_, ap}
+use mathlib.Core.List.{List, [], _∷_}
 use native.Mathlib.Omega.{arith}
-use lib.Dec.{eqb, ltb}
+use lib.Dec.{eqb}
 use lib.IntN.{ℤ}
 use lib.ListN.{length}
-use borrow.Author.Tests.{ltb-true, ne-eqb, eq-eqb}
+use borrow.Author.Tests.{ne-eqb}
 use Rattle.time.specs.Pick.{pick}
 use Rattle.settings.specs.declared.Config.{Config}
 use Rattle.state.specs.declared.State.{State}
 use Rattle.state.specs.declared.Profile.{Profile}
-use Rattle.events.specs.Events.{Event}
-use Rattle.refusal.specs.declared.Refused.{Refused}
-use Rattle.refusal.specs.Refusal.{Test, first, by, numbered, givenTests, stateTests, frameTests, beforeFrame}
-use Rattle.refusal.specs.First.{rising, backAt, backBelow, exactly, first-append}
+use Rattle.refusal.specs.Refusal.{first, by, numbered, givenTests, stateTests, frameTests, beforeFrame}
+use Rattle.refusal.specs.First.{rising, first-append}
 use Rattle.answer.specs.Outcome.{Outcome}
 use Rattle.answer.specs.Laws.{by-taken, by-nonzero, by-either}
 use Rattle.frame.specs.declared.FrameProof.{FrameProof}

@@ -1,6 +1,5 @@
 // What an authenticated frame tells of the peer: `heard_current`, `heard_previous` and `revert` of
 // machine.rs, on the whole state.
-ghost use mathlib.Core.Path.{_≡_};
 ghost use mathlib.Core.List.{[], _∷_};
 ghost use Rattle.events.specs.Events.{Reverted, Prompt};
 ghost use Rattle.events.specs.Log.{Appends};

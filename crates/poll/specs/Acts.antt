@@ -1,9 +1,9 @@
 -- What an accepted poll does: each item that is due is listed, none is left due at the poll's instant,
 -- and it tells something exactly where it has something to tell.
 use Prim.Native.Nat.{ℕ, _<_}
-use mathlib.Core.Bool.{Bool, true, false, false≢true}
+use mathlib.Core.Bool.{Bool, true, false}
 use mathlib.Core.Logic.{⊎-elim}
-use mathlib.Core.Path.{_≡_, refl, sym, _∙_, ap, subst}
+use mathlib.Core.Path.{_≡_, sym, _∙_, ap, subst}
 use mathlib.Core.List.{[]}
 use native.Mathlib.Omega.{arith}
 use lib.IntN.{ℤ}

@@ -15,7 +15,7 @@ use Rattle.state.specs.declared.State.{State}
 use Rattle.state.specs.declared.Given.{Given}
 use Rattle.events.specs.Events.{Event, Teardown, Start, Delegate}
 use Rattle.events.specs.Numbers.{teardownOpeningIdle, teardownCounterExhausted}
-use Rattle.events.specs.Queries.{anyOf, offers}
+use Rattle.events.specs.Queries.{anyOf}
 use Rattle.events.specs.Withdraw.{given, stays, wordsStay}
 use Rattle.start.specs.Start.{startKind, calledFor}
 use Rattle.wake.specs.Due.{someIn}

@@ -8,7 +8,6 @@ use mathlib.Core.Option.{Option, none}
 use native.Mathlib.Omega.{arith}
 use lib.IntN.{ℤ}
 use Rattle.settings.specs.declared.Config.{Config}
-use Rattle.state.specs.declared.State.{State}
 use Rattle.state.specs.declared.Profile.{Profile}
 use Rattle.state.specs.Stands.{stands}
 use Rattle.events.specs.Events.{Event}
@@ -30,7 +29,7 @@ use Rattle.agreed.specs.Outcomes.{Outcomes}
 use Rattle.agreed.specs.Frames.{frame-alike, target-alike}
 use Rattle.agreed.specs.Replies.{reply-alike, told-alike}
 use Rattle.poll.specs.Runs.{goesOn}
-use Rattle.poll.specs.Served.{Name, frame, reply, sent, Buffers, noBuffers, answerOf, stepOf, Served}
+use Rattle.poll.specs.Served.{frame, reply, sent, Buffers, noBuffers, answerOf, stepOf, Served}
 
 -- sent back: its number is not 0
 pub refused : (n place : ℕ) (out : List Event) (c : Option ℕ) → goesOn (answerOf n place out c) ≡ false → n ≡ 0 → ⊥

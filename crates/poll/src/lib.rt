@@ -1,5 +1,4 @@
 // The poll (machine.rs, `poll`): refusals 1 to 7, the passes, and what follows them.
-ghost use mathlib.Core.Path.{_≡_};
 ghost use Rattle.poll.specs.Poll.{pollOf};
 ghost use Rattle.answer.specs.Answers.{Answers};
 ghost use Rattle.poll.specs.Exact.{PollExact};

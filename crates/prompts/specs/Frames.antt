@@ -1,13 +1,13 @@
 -- No prompt of a frame is one that would be withdrawn: each names the current epoch that the frame
 -- leaves, or its pending epoch that waits for evidence. So a frame withdraws none.
 use Prim.Native.Nat.{ℕ}
-use mathlib.Core.Bool.{Bool, true, false}
+use mathlib.Core.Bool.{Bool}
 use mathlib.Core.Path.{_≡_, refl, ap, ap₂}
-use mathlib.Core.List.{List, []}
+use mathlib.Core.List.{List}
 use lib.Dec.{eqb}
 use lib.IntN.{ℤ}
 use Rattle.time.specs.declared.When.{When}
-use Rattle.time.specs.Pick.{pick, of-choice}
+use Rattle.time.specs.Pick.{of-choice}
 use Rattle.time.specs.Time.{at}
 use Rattle.settings.specs.declared.Config.{Config}
 use Rattle.epoch.specs.declared.Epoch.{Epoch}

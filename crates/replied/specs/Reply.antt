@@ -1,9 +1,8 @@
 -- A start reply leaves an accepted state accepted and moves no start: an attempt has no epoch.
 use Prim.Native.Nat.{ℕ}
-use mathlib.Core.Bool.{Bool, true, false, false≢true}
+use mathlib.Core.Bool.{true, false, false≢true}
 use mathlib.Core.Path.{_≡_}
 use mathlib.Core.List.{[]}
-use lib.Dec.{eqb}
 use Rattle.time.specs.Pick.{pick, of-choice}
 use Rattle.time.specs.Time.{at}
 use Rattle.ladder.specs.declared.Schedule.{Schedule}

@@ -4,7 +4,6 @@ use mathlib.Core.Bool.{Bool, true, false, false≢true}
 use mathlib.Core.Path.{_∙_}
 use mathlib.Core.List.{[]}
 use native.Mathlib.Omega.{arith}
-use lib.Dec.{eqb}
 use lib.IntN.{ℤ}
 use Rattle.time.specs.Pick.{pick, of-choice}
 use Rattle.settings.specs.declared.Config.{Config}

@@ -1,12 +1,10 @@
 -- Laws of a start reply.
-use Prim.Native.Nat.{ℕ, _≤_, _<_, _+_}
-use mathlib.Core.Bool.{Bool, true, false, not, _&&_, false≢true}
-use mathlib.Core.Logic.{_↔_}
-use mathlib.Core.Path.{_≡_, refl, sym, _∙_, ap}
-use mathlib.Core.List.{List, [], _∷_, _++_}
-use native.Mathlib.Omega.{arith}
+use Prim.Native.Nat.{ℕ, _≤_, _+_}
+use mathlib.Core.Bool.{Bool, true, false, not, _&&_}
+use mathlib.Core.Path.{_≡_, refl, _∙_, ap}
+use mathlib.Core.List.{[], _∷_}
 use lib.Dec.{eqb, ltb}
-use borrow.Author.Tests.{ltb-true, le-ltb, ne-eqb}
+use borrow.Author.Tests.{le-ltb}
 use Rattle.time.specs.declared.When.{When}
 use Rattle.time.specs.Pick.{pick}
 use Rattle.time.specs.Time.{least}
@@ -15,9 +13,8 @@ use Rattle.state.specs.declared.Memory.{Memory}
 use Rattle.state.specs.declared.State.{State}
 use Rattle.state.specs.declared.Profile.{Profile}
 use Rattle.start.specs.Start.{silenceInterval, startKind, calledFor}
-use Rattle.refusal.specs.declared.Refused.{Refused}
-use Rattle.refusal.specs.Refusal.{Test, first, by, numbered, givenTests, stateTests, replyTests, beforeReply}
-use Rattle.refusal.specs.First.{rising, backAt, backBelow, exactly, first-append}
+use Rattle.refusal.specs.Refusal.{first, by, numbered, givenTests, stateTests, replyTests, beforeReply}
+use Rattle.refusal.specs.First.{rising, first-append}
 use Rattle.answer.specs.Outcome.{done}
 use Rattle.answer.specs.Laws.{by-either}
 use Rattle.reply.specs.declared.StartReply.{StartReply}

@@ -5,11 +5,9 @@ use mathlib.Core.Bool.{Bool, true, false, not, false≢true}
 use mathlib.Core.Path.{_≡_, refl}
 use mathlib.Core.List.{List, [], _∷_, _++_}
 use lib.Dec.{leb, ltb, eqb}
-use Rattle.time.specs.declared.When.{When}
 use Rattle.time.specs.Pick.{pick}
-use Rattle.time.specs.Time.{at, least, most, satMul, laterOf, sumOf, laterByOf, backoffOf}
+use Rattle.time.specs.Time.{at, least, most, satMul, laterOf, backoffOf}
 use Rattle.ladder.specs.declared.Took.{Took}
-use Rattle.ladder.specs.declared.Ladder.{Ladder}
 use Rattle.ladder.specs.Ladder.{takeOf}
 use Rattle.settings.specs.declared.Config.{Config}
 use Rattle.params.specs.Params.{valueOr}
@@ -21,9 +19,8 @@ use Rattle.cycle.specs.declared.Cycle.{Cycle}
 use Rattle.cycle.specs.declared.PendI.{PendI}
 use Rattle.cycle.specs.Kind.{isInit, isPendI, isPendR, idled}
 use Rattle.cycle.specs.Put.{putInit, putPendI, movedInit, withFin, withProbes}
-use Rattle.candidates.specs.declared.Candidates.{Candidates}
 use Rattle.state.specs.declared.Memory.{Memory}
-use Rattle.events.specs.Events.{Event, Send, Prompt, Reject, Abandoned, Teardown, Ended}
+use Rattle.events.specs.Events.{Event, Send, Prompt, Abandoned, Teardown, Ended}
 use Rattle.events.specs.Log.{Appends}
 use Rattle.retire.specs.Retire.{only, retireOut, abandonOut}
 use Rattle.rows.specs.declared.Cycled.{Cycled}

@@ -2,7 +2,7 @@
 // changes, and writes its events into the lent log (`expire_pass`, `probe`, `resend` and `expire`
 // of machine.rs).
 ghost use mathlib.Core.Path.{_≡_};
-ghost use mathlib.Core.Bool.{Bool, not};
+ghost use mathlib.Core.Bool.{not};
 ghost use mathlib.Core.List.{[], _∷_, _++_};
 ghost use Prim.Native.Nat.{_+_};
 ghost use Rattle.events.specs.Log.{Appends};

@@ -1,6 +1,6 @@
 // The calls of a list, each on what the row of crate `form` holds, told as lines. The state that an
 // accepted call leaves goes back into the row. No public function has a `requires`.
-use answer::Answer;
+use calling::Verdict;
 use lines::Output;
 use shown::Call;
 
@@ -25,15 +25,15 @@ pub fn answer(out: &mut [u8], o: Output, call: Call, v: &mut [u64; 655], part: u
 fn open(out: &mut [u8], o: Output, call: Call, v: &mut [u64; 655]) -> Told {
     let mut log = [0u64; 768];
     let mut left = [0u64; 655];
-    let answer = calling::open(v, &mut left, &mut log);
-    settle(out, o, call, v, &left, &log, answer)
+    let verdict = calling::open(v, &mut left, &mut log);
+    settle(out, o, call, v, &left, &log, verdict)
 }
 
 fn poll(out: &mut [u8], o: Output, call: Call, v: &mut [u64; 655]) -> Told {
     let mut log = [0u64; 768];
     let mut left = [0u64; 655];
-    let answer = calling::poll(v, &mut left, &mut log);
-    settle(out, o, call, v, &left, &log, answer)
+    let verdict = calling::poll(v, &mut left, &mut log);
+    settle(out, o, call, v, &left, &log, verdict)
 }
 
 // Both buffers are filled with 0; their lengths are arguments.
@@ -87,22 +87,22 @@ fn frame_with(
 ) -> Told {
     let mut log = [0u64; 768];
     let mut left = [0u64; 655];
-    let answer = calling::frame(v, &mut left, &mut log, source, target);
-    settle(out, o, call, v, &left, &log, answer)
+    let verdict = calling::frame(v, &mut left, &mut log, source, target);
+    settle(out, o, call, v, &left, &log, verdict)
 }
 
 fn reply(out: &mut [u8], o: Output, call: Call, v: &mut [u64; 655]) -> Told {
     let log = [0u64; 768];
     let mut left = [0u64; 655];
-    let answer = calling::reply(v, &mut left);
-    settle(out, o, call, v, &left, &log, answer)
+    let verdict = calling::reply(v, &mut left);
+    settle(out, o, call, v, &left, &log, verdict)
 }
 
 fn sent(out: &mut [u8], o: Output, call: Call, v: &mut [u64; 655]) -> Told {
     let log = [0u64; 768];
     let mut left = [0u64; 655];
-    let answer = calling::sent(v, &mut left);
-    settle(out, o, call, v, &left, &log, answer)
+    let verdict = calling::sent(v, &mut left);
+    settle(out, o, call, v, &left, &log, verdict)
 }
 
 // A refused call leaves the state that it was given.
@@ -113,13 +113,13 @@ fn settle(
     v: &mut [u64; 655],
     left: &[u64; 655],
     log: &[u64; 768],
-    answer: Answer,
+    verdict: Verdict,
 ) -> Told {
-    if answer.number != 0 {
-        return refused(out, o, call, answer.number as u64, answer.place as u64);
+    if verdict.number != 0 {
+        return refused(out, o, call, verdict.number as u64, verdict.place as u64);
     }
     form::take_state(v, left);
-    let written = shown::events(out, o, call, log, answer.len);
+    let written = shown::events(out, o, call, log, verdict.len);
     Told {
         o: written,
         link: true,

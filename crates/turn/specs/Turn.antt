@@ -7,12 +7,9 @@ use mathlib.Core.List.{List, [], _∷_, _++_}
 use lib.Dec.{leb, ltb, eqb}
 use lib.IntN.{ℤ}
 use Rattle.time.specs.Pick.{pick}
-use Rattle.epoch.specs.declared.Epoch.{Epoch}
-use Rattle.epoch.specs.declared.MayEpoch.{MayEpoch}
 use Rattle.epoch.specs.Put.{putAssumed, putEp}
 use Rattle.cycle.specs.declared.Cycle.{Cycle}
 use Rattle.cycle.specs.Kind.{idled, waitsHeld, waitsEvidence, waitsDelay}
-use Rattle.candidates.specs.declared.Expired.{Expired}
 use Rattle.candidates.specs.Held.{expireOf}
 use Rattle.state.specs.declared.Memory.{Memory}
 use Rattle.state.specs.declared.State.{State}
@@ -23,7 +20,7 @@ use Rattle.events.specs.Log.{Appends}
 use Rattle.retire.specs.Retire.{only, retireOut}
 use Rattle.rows.specs.Rows.{DrainStep, CycleStep, CurStep, FailStep, and, isOwn, grace, drainDue, unadoptedDue, probeDue, delayedDue, finDue, elicitDue, resendDue, expireDue}
 use Rattle.cutover.specs.declared.Pend.{Pend}
-use Rattle.cutover.specs.Cutover.{CutStep, cutoverOf}
+use Rattle.cutover.specs.Cutover.{cutoverOf}
 use Rattle.turn.specs.declared.Ran.{Ran}
 
 -- what an item leaves: the state, its events, and whether the link ends

@@ -3,13 +3,12 @@
 -- hypotheses are met, and the theorem gives what one sees by running it.
 use Prim.Native.Nat.{ℕ, _≤_, _<_}
 use mathlib.Core.Path.{_≡_, refl, sym, _∙_, subst}
-use mathlib.Core.Bool.{Bool, true, false, true≢false, false≢true}
+use mathlib.Core.Bool.{true, false, true≢false, false≢true}
 use mathlib.Core.List.{List, [], _∷_}
 use mathlib.Core.Option.{none, some}
 use native.Mathlib.Omega.{arith}
 use lib.IntN.{pos}
 use Rattle.time.specs.Time.{none as never}
-use Rattle.settings.specs.declared.Config.{Config}
 use Rattle.settings.specs.Settings.{fmp}
 use Rattle.epoch.specs.declared.Epoch.{Epoch}
 use Rattle.epoch.specs.declared.Index.{Index}
@@ -17,8 +16,6 @@ use Rattle.state.specs.declared.State.{State}
 use Rattle.state.specs.declared.Profile.{Profile}
 use Rattle.events.specs.Events.{Event, Mark, Deliver, Delegate, Installed, Rekeyed, Retired, Prompt, Teardown, Start}
 use Rattle.events.specs.Numbers.{slotCurrent, evidenceFrame, teardownCounterExhausted, startScheduled}
-use Rattle.frame.specs.declared.FrameProof.{FrameProof}
-use Rattle.reply.specs.declared.StartReply.{StartReply}
 use Rattle.calls.specs.Blank.{noEpoch, noAttempt, noPendI, noCandidates, noDrain, noIndex}
 use Rattle.early.specs.Early.{Early}
 use Rattle.poll.specs.Runs.{poll, named as called, back, gave, Entry, LeftOut, done, stays, out, logOf, second, endOf, AllQuiet, After, Rises, EarlyFor, Late, accepted, quiet}

@@ -1,4 +1,3 @@
-use native.Mathlib.Omega.{arith}
 use mir.Facts.{toZ-ofZ}
 use Rattle.poll.specs.Answer.{poll-back, poll-on}
 use Rattle.poll.specs.Exact.{poll-exact}

@@ -2,7 +2,7 @@ use mathlib.Core.Path.{sym, ap}
 use mathlib.Core.List.{[]}
 use Rattle.answer.specs.Outcome.{done}
 use Rattle.answer.specs.Answers.{answers-back, answers-unlent}
-use Rattle.reply.specs.Reply.{takenOf, replyRefused, replyOf}
+use Rattle.reply.specs.Reply.{replyOf}
 use Rattle.reply.specs.Exact.{reply-exact}
 use Rattle.reply.proofs.reply.Statement.{statement}
 use Rattle.reply.proofs.reply.Tie as tie
