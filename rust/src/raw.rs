@@ -330,8 +330,9 @@ pub struct StartReply {
 }
 
 /// What every call answers that hands a state back: the refusal's number, 0 where there is none, with
-/// the check's place in 1; the state, which of a refused call is the one that it was given; how many
-/// events the log has; and how many items a poll's passes listed.
+/// the check's place in 1; the state, which of a refused call is the one that it was given (of a
+/// refused `siklyavon_open`, which is given none, one with no epoch); how many events the log has; and
+/// how many items a poll's passes listed.
 #[repr(C)]
 #[derive(Clone, Copy, Debug)]
 pub struct Answer {
