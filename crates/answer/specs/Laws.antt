@@ -11,11 +11,13 @@ use lib.ListN.{length, getD, drop, set, length-append, length-drop}
 use lib.Seq.{sets, sets-eq}
 use Rattle.time.specs.declared.When.{When}
 use Rattle.time.specs.Pick.{pick}
-use Rattle.time.specs.Time.{least-left}
+use Rattle.time.specs.Laws.{least-left}
 use Rattle.time.specs.Lists.{fold, range, kept}
-use Rattle.events.specs.Events.{Event, wordsOf, eight-words}
-use Rattle.events.specs.Log.{Log, at, stored, pushed, logged, placeOf, takenOf, held, at-len, at-words}
-use Rattle.events.specs.Held.{stored-at, stored-len, stored-behind, same-on, held-taken, held-empty, answer-len, held-answer}
+use Rattle.events.specs.Events.{Event, wordsOf}
+use Rattle.events.specs.Laws.{eight-words}
+use Rattle.events.specs.Log.{Log, at, stored, pushed, logged, placeOf, takenOf, held}
+use Rattle.events.specs.Laws.{at-len, at-words}
+use Rattle.events.specs.Laws.{stored-at, stored-len, stored-behind, same-on, held-taken, held-empty, answer-len, held-answer}
 use Rattle.events.specs.Withdraw.{wordsStay, stays, sifted, withdrawn}
 use Rattle.state.specs.declared.State.{State}
 use Rattle.refusal.specs.declared.Refused.{Refused}

@@ -12,11 +12,13 @@ use lib.Seq.{ext-getD}
 use Rattle.time.specs.Pick.{pick}
 use Rattle.time.specs.declared.When.{When}
 use Rattle.time.specs.Lists.{fold, range, kept, length-range}
-use Rattle.time.specs.Time.{none, at, soonerOf, reachedOf, least-left, least-le}
+use Rattle.time.specs.Time.{none, at, soonerOf, reachedOf}
+use Rattle.time.specs.Laws.{least-left, least-le}
 use Rattle.candidates.specs.declared.Candidates.{Candidates}
 use Rattle.candidates.specs.Held.{Candidate, heldOf, between, firsts, candAt, heldBy, numbers, without, expiredIn, bornAfter, earliestOf, placeOf, spotOf, chosen, choosing, others, removedOf, younger, keptAfter, clearedOf, leaving, expireOf}
 use Rattle.candidates.specs.Places.{length-between, others-none, read-range}
-use Rattle.candidates.specs.Repeats.{repeated, repeated-part}
+use Rattle.candidates.specs.Repeats.{repeated}
+use Rattle.candidates.specs.Places.{repeated-part}
 
 pub held-most : (n : ℕ) → (heldOf n ≤ n) × (heldOf n ≤ 32)
 unfolding heldOf

@@ -3,7 +3,6 @@
 // One array to a field, so that a removal moves numbers and copies no record. Places from `len` on
 // are no part of the state.
 ghost use mathlib.Core.Path.{_≡_};
-ghost use mathlib.Core.Bool.{Bool};
 ghost use mathlib.Core.List.{[]};
 ghost use Prim.Native.Nat.{_+_, _≤_, _<_};
 ghost use lib.ListN.{length, getD};

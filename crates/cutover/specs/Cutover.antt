@@ -1,45 +1,41 @@
 -- `cutover`: a pending epoch becomes current. Part by part, in the order of machine.rs.
-use Prim.Native.Nat.{ℕ, _+_}
+use Prim.Native.Nat.{ℕ}
 use mathlib.Core.Bool.{Bool, true, false, not}
 use mathlib.Core.List.{List, [], _∷_, _++_}
-use lib.Dec.{leb, ltb, eqb}
+use lib.Dec.{ltb, eqb}
 use lib.IntN.{ℤ}
 use Rattle.time.specs.declared.When.{When}
 use Rattle.time.specs.Pick.{pick}
 use Rattle.time.specs.Time.{at, laterOf}
-use Rattle.ladder.specs.declared.Ladder.{Ladder}
 use Rattle.ladder.specs.Ladder.{nextAtOf, anew}
 use Rattle.settings.specs.declared.Config.{Config}
 use Rattle.params.specs.Params.{elicitMade}
+use Rattle.numbers.specs.Numbers.{evidenceFrame, evidenceRestart, evidenceDelay}
 use Rattle.epoch.specs.declared.Final.{Final}
-use Rattle.epoch.specs.declared.MayLadder.{MayLadder}
 use Rattle.epoch.specs.declared.Epoch.{Epoch}
-use Rattle.epoch.specs.declared.MayEpoch.{MayEpoch}
 use Rattle.epoch.specs.declared.Drain.{Drain}
 use Rattle.epoch.specs.Put.{putFin, putElicit, dropFin, dropLadder}
 use Rattle.cycle.specs.Kind.{idled}
 use Rattle.candidates.specs.declared.Candidates.{Candidates}
 use Rattle.candidates.specs.Held.{clearedOf}
 use Rattle.state.specs.declared.Memory.{Memory}
-use Rattle.state.specs.declared.Bit.{Bit}
 use Rattle.state.specs.declared.State.{State}
 use Rattle.state.specs.declared.Given.{Given}
 use Rattle.events.specs.Events.{Event, Prompt, Installed, PeerRestarted, Rekeyed}
 use Rattle.retire.specs.Retire.{only, retireOut, delegateOut}
-use Rattle.rows.specs.Rows.{and}
+use Rattle.time.specs.Pick.{and}
 use Rattle.cutover.specs.declared.Pend.{Pend}
 
--- evidence by its number: 0 Proof, 1 Frame, 3 Assumed, 4 Delay
 abbrev pub isFrame : ℕ → Bool
-isFrame evidence = eqb evidence 1
+isFrame evidence = eqb evidence evidenceFrame
 
 abbrev pub isDelay : ℕ → Bool
-isDelay evidence = eqb evidence 4
+isDelay evidence = eqb evidence evidenceDelay
 
 -- ---- the candidates: a proof or a frame drops them all; without evidence from the peer the
--- smaller node, which keeps its completed attempt, drops them
+-- smaller node, which keeps its completed attempt, drops them. The order of the numbers is used: only Proof and Frame come before Restart.
 unfoldable pub prunes : ℕ → Bool → Bool
-prunes evidence smaller = pick (ltb evidence 2) true smaller
+prunes evidence smaller = pick (ltb evidence evidenceRestart) true smaller
 
 unfoldable pub pruned : Candidates → ℕ → Bool → Candidates
 pruned v evidence smaller = pick (prunes evidence smaller) (clearedOf v) v

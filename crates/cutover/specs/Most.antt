@@ -1,7 +1,7 @@
 -- How many events a cutover has at most.
 use Prim.Native.Nat.{ℕ, _≤_}
 use mathlib.Core.Bool.{Bool}
-use mathlib.Core.List.{List, []}
+use mathlib.Core.List.{[]}
 use native.Mathlib.Omega.{arith}
 use lib.IntN.{ℤ}
 use lib.ListN.{length, length-append}
@@ -11,10 +11,10 @@ use Rattle.epoch.specs.declared.Epoch.{Epoch}
 use Rattle.epoch.specs.declared.Drain.{Drain}
 use Rattle.state.specs.declared.State.{State}
 use Rattle.state.specs.declared.Given.{Given}
-use Rattle.events.specs.Events.{Event, PeerRestarted}
+use Rattle.events.specs.Events.{PeerRestarted}
 use Rattle.retire.specs.Retire.{retireOut}
 use Rattle.retire.specs.Most.{only-most, retire-most, delegate-most}
-use Rattle.rows.specs.Rows.{and}
+use Rattle.time.specs.Pick.{and}
 use Rattle.cutover.specs.declared.Pend.{Pend}
 use Rattle.cutover.specs.Cutover.{givenUp, adopted, announced, cutoverOf}
 

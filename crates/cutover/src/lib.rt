@@ -9,7 +9,7 @@ ghost use Rattle.params.specs.Params.{elicitMade};
 ghost use Rattle.ladder.specs.Ladder.{anew, nextAtOf};
 ghost use Rattle.events.specs.Events.{PeerRestarted};
 ghost use Rattle.retire.specs.Retire.{only};
-ghost use Rattle.rows.specs.Rows.{and};
+ghost use Rattle.time.specs.Pick.{and};
 use candidates::Candidates;
 use epoch::Drain;
 use epoch::Epoch;
@@ -37,12 +37,16 @@ pub struct Cut {
     pub len: usize,
 }
 
-// Whether the candidates are dropped: evidence 0 is Proof, 1 Frame, 3 Assumed, 4 Delay. A proof or a
-// frame drops them; otherwise the smaller node, which keeps its completed attempt, does.
+// Whether the candidates are dropped. A proof or a frame, the only evidence before `RESTART`, drops them;
+// otherwise the smaller node, which keeps its completed attempt, does.
 fn prunes(evidence: u64, smaller: bool) -> bool
     ensures { λ r. ⌜ r ≡ prunesOf evidence smaller ⌝ }
 {
-    if evidence < 2 { true } else { smaller }
+    if evidence < numbers::evidence::RESTART {
+        true
+    } else {
+        smaller
+    }
 }
 
 fn prune(v: Candidates, evidence: u64, smaller: bool) -> Candidates
@@ -59,7 +63,7 @@ fn prune(v: Candidates, evidence: u64, smaller: bool) -> Candidates
 fn hold(evidence: u64, cfg: Config) -> u64
     ensures { λ r. ⌜ r ≡ pick (isFrame evidence) (cfg .drain) (cfg .retention) ⌝ }
 {
-    if evidence == 1 {
+    if evidence == numbers::evidence::FRAME {
         cfg.drain
     } else {
         cfg.retention
@@ -79,7 +83,7 @@ fn demote(old: Epoch, restart: bool, evidence: u64, cfg: Config, time: u64) -> D
         some: !restart,
         ep: ep,
         deadline: t,
-        evidenced: evidence == 1,
+        evidenced: evidence == numbers::evidence::FRAME,
     }
 }
 
@@ -118,7 +122,11 @@ fn keeps(fin: Final, evidence: u64) -> bool
     ensures { λ r. ⌜ r ≡ keptFin fin evidence .some ⌝ }
 {
     if fin.some {
-        if evidence == 4 { has_rung(fin) } else { false }
+        if evidence == numbers::evidence::DELAY {
+            has_rung(fin)
+        } else {
+            false
+        }
     } else {
         false
     }
@@ -129,7 +137,7 @@ fn spent(fin: Final, evidence: u64) -> bool
     ensures { λ r. ⌜ r ≡ spentOf fin evidence ⌝ }
 {
     if fin.some {
-        if evidence == 4 {
+        if evidence == numbers::evidence::DELAY {
             let has = has_rung(fin);
             !has
         } else {
@@ -143,7 +151,7 @@ fn spent(fin: Final, evidence: u64) -> bool
 fn heard_now(w: When, evidence: u64, time: u64) -> When
     ensures { λ r. ⌜ r ≡ heardNow w evidence time ⌝ }
 {
-    if evidence == 1 {
+    if evidence == numbers::evidence::FRAME {
         When {
             some: true,
             at: time,
@@ -245,14 +253,14 @@ fn remember(
         some: true,
         at: time,
     };
-    let d = either(due, m.due);
+    let d = time::either(due, m.due);
     let mut m2 = m;
     m2.jitter = spread;
     m2.link_since = since;
     m2.last_cutover = w;
     m2.abandons = 0;
     m2.due = d;
-    if evidence == 1 {
+    if evidence == numbers::evidence::FRAME {
         remember_frame(m2, k, time)
     } else {
         m2
@@ -263,12 +271,6 @@ fn since_of(since: u64, restart: bool, time: u64) -> u64
     ensures { λ r. ⌜ r ≡ pick restart time since ⌝ }
 {
     if restart { time } else { since }
-}
-
-fn either(a: bool, b: bool) -> bool
-    ensures { λ r. ⌜ r ≡ pick a Bool.true b ⌝ }
-{
-    if a { true } else { b }
 }
 
 // The peer's new startup epoch, where it restarted and told one.
@@ -333,7 +335,7 @@ pub fn cutover(
     s2.mem = mem;
     s2.cur = cur;
     s2.drain = drain;
-    s2.cycle.kind = 0;
+    s2.cycle.kind = numbers::cycle::IDLE;
     s2.cands = cands;
     Cut { state: s2, len: n }
 }

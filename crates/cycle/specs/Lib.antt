@@ -1,2 +1,3 @@
 pub mod Kind
 pub mod Put
+pub mod Held

@@ -1,6 +1,5 @@
 -- A cycle with the record of its case changed.
-use Prim.Native.Nat.{ℕ}
-use mathlib.Core.Bool.{Bool, true, false}
+use mathlib.Core.Bool.{Bool}
 use Rattle.time.specs.declared.When.{When}
 use Rattle.ladder.specs.declared.Ladder.{Ladder}
 use Rattle.epoch.specs.declared.Final.{Final}

@@ -1,7 +1,9 @@
 // The rotation cycle: a kind beside the records of its cases (cycle.rs).
 //
-// Kind 1 is an own attempt (Init), 2 an own completed attempt (PendI), 3 a peer's completed attempt
-// (PendR); any other number is Idle. Only the record of the kind's own case is part of the state.
+// The kind is a number of `numbers::cycle`; any other counts as idle. Only the record of the kind's own
+// case is part of the state.
+ghost use mathlib.Core.Path.{_≡_};
+ghost use Rattle.cycle.specs.Held.{isOwn, isPeers};
 use epoch::Epoch;
 use epoch::Final;
 use epoch::Index;
@@ -23,7 +25,7 @@ pub struct Attempt {
     pub resent: bool,
 }
 
-// An own attempt that completed. Wait 0 is Held, 1 is Evidence; any other number is Delay.
+// An own attempt that completed. The wait is a number of `numbers::wait`; any other counts as a delay.
 #[repr(C)]
 pub struct PendI {
     pub ep: Epoch,
@@ -56,4 +58,18 @@ pub struct Cycle {
     pub init: Attempt,
     pub pendi: PendI,
     pub pendr: PendR,
+}
+
+// Whether an own completed attempt is held under `tag`.
+pub fn is_own(c: Cycle, tag: u64) -> bool
+    ensures { λ r. ⌜ r ≡ isOwn c tag ⌝ }
+{
+    epoch::is_tag(c.kind == numbers::cycle::PENDI, c.pendi.ep.tag, tag)
+}
+
+// Whether a peer's completed attempt is held under `tag`.
+pub fn is_peers(c: Cycle, tag: u64) -> bool
+    ensures { λ r. ⌜ r ≡ isPeers c tag ⌝ }
+{
+    epoch::is_tag(c.kind == numbers::cycle::PENDR, c.pendr.ep.tag, tag)
 }

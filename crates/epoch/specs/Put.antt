@@ -1,6 +1,5 @@
 -- An epoch with one of its parts changed.
-use Prim.Native.Nat.{ℕ}
-use mathlib.Core.Bool.{Bool, true, false}
+use mathlib.Core.Bool.{Bool, false}
 use Rattle.time.specs.declared.When.{When}
 use Rattle.ladder.specs.declared.Ladder.{Ladder}
 use Rattle.epoch.specs.declared.Final.{Final}

@@ -3,6 +3,8 @@
 // Every record here may be held by Rust, so each is laid out as C does. A case of the source's
 // `Option` is a flag beside the value; a two-valued enum is a flag. What stands behind a flag that
 // is off is no part of the state.
+ghost use mathlib.Core.Path.{_≡_};
+ghost use Rattle.epoch.specs.Held.{isTag};
 use ladder::Ladder;
 use time::When;
 
@@ -85,4 +87,11 @@ pub struct Drain {
     pub deadline: u64,
     // The deadline is the short one, after evidence the peer moved.
     pub evidenced: bool,
+}
+
+// Whether something is held under `tag`.
+pub fn is_tag(some: bool, held: u64, tag: u64) -> bool
+    ensures { λ r. ⌜ r ≡ isTag some held tag ⌝ }
+{
+    if some { held == tag } else { false }
 }

@@ -1,8 +1,8 @@
 -- The log of an answer: words that the caller lends, 96 places of eight words, and how many of the
 -- places are taken.
 use Prim.Native.Nat.{ℕ, _+_, _-_, _*_}
-use mathlib.Core.Path.{_≡_, refl, sym, _∙_, ap}
-use mathlib.Core.List.{List, [], _∷_, _++_, map}
+use mathlib.Core.Path.{_≡_}
+use mathlib.Core.List.{List, [], _∷_, map}
 use lib.Dec.{ltb}
 use lib.ListN.{getD}
 use lib.Seq.{sets}
@@ -68,25 +68,3 @@ held v = placesOf (v .words) 0 (takenOf (v .len))
 -- the words as the code carries them
 abbrev pub listOf : Words → List ℕ
 listOf w = w .kind ∷ w .a ∷ w .b ∷ w .c ∷ w .d ∷ w .e ∷ w .f ∷ w .g ∷ []
-
--- ---- laws
-
-pub at-len : (n : ℕ) (ws : List ℕ) → at n ws .len ≡ n
-unfolding at
-at-len n ws = refl
-
-pub at-words : (n : ℕ) (ws : List ℕ) → at n ws .words ≡ ws
-unfolding at
-at-words n ws = refl
-
-pub logged-append : (v : Log) (a b : List Event) → logged v (a ++ b) ≡ logged (logged v a) b
-logged-append v [] b = refl
-logged-append v (e ∷ a) b = logged-append (pushed v e) a b
-
--- one event after what was known
-pub after : {l m n : Log} (e : Event) → m ≡ l → n ≡ pushed m e → n ≡ pushed l e
-after e p q = q ∙ ap (λ v. pushed v e) p
-
--- a list of events after what was known
-pub after-all : {m n : Log} (l : Log) (a b : List Event) → m ≡ logged l a → n ≡ logged m b → n ≡ logged l (a ++ b)
-after-all l a b p q = q ∙ (ap (λ v. logged v b) p ∙ sym (logged-append l a b))

@@ -2,16 +2,17 @@
 //
 // Ported from mod.rs (`Output`); `withdraw` and `offered` from machine.rs. An event is its number,
 // then its fields in order, then zeros: `wordsOf` of specs/Events.antt has the words of each, and
-// specs/Numbers.antt the number of each enum's case. The caller keeps the length: each function
+// crate `numbers` the number of each enum's case. The caller keeps the length: each function
 // takes it and answers the new one.
 ghost use mathlib.Core.Path.{_≡_};
 ghost use mathlib.Core.List.{[], _∷_};
 ghost use Prim.Native.Nat.{_<_};
-ghost use Rattle.events.specs.Numbers.{bit as bitOf};
+ghost use Rattle.numbers.specs.Numbers.{bit as bitOf};
 ghost use Rattle.events.specs.Events.{Send, Prompt, Deliver, Bind, Unbind, Delegate, Revoke, Release, Installed, Retired, Reverted, PeerRestarted, Rekeyed, Reject, Abandoned, Teardown, Mark, Start, Ended};
 ghost use Rattle.events.specs.Log.{Appends, stored, listOf, placeOf, takenOf, at};
 ghost use Rattle.events.specs.Queries.{wordOf, wordsOffer, offeredIn};
 ghost use Rattle.events.specs.Withdraw.{given, names as namesOf, sealable as sealableOf, wordsStay, sifted, withdrawn};
+use numbers::event;
 use time::When;
 
 // The words of one place: an event's number and its fields, then zeros.
@@ -87,21 +88,21 @@ fn add(
 pub fn send(log: &mut [u64; 768], len: usize, msg: u64, kind: u64) -> usize
     ensures { λ r. ⌜ Appends (Send msg kind ∷ []) len (now (log .entry)) r (now (log .exit)) ⌝ }
 {
-    add(log, len, 0, msg, kind, 0, 0, 0, 0)
+    add(log, len, event::SEND, msg, kind, 0, 0, 0, 0)
 }
 
 // A frame to seal under an epoch and send.
 pub fn prompt(log: &mut [u64; 768], len: usize, tag: u64) -> usize
     ensures { λ r. ⌜ Appends (Prompt tag ∷ []) len (now (log .entry)) r (now (log .exit)) ⌝ }
 {
-    add(log, len, 1, tag, 0, 0, 0, 0, 0)
+    add(log, len, event::PROMPT, tag, 0, 0, 0, 0, 0)
 }
 
 // The plaintext from `start` up to `end` of the frame's buffer.
 pub fn deliver(log: &mut [u64; 768], len: usize, slot: u64, tag: u64, start: u64, end: u64) -> usize
     ensures { λ r. ⌜ Appends (Deliver slot tag start end ∷ []) len (now (log .entry)) r (now (log .exit)) ⌝ }
 {
-    add(log, len, 2, slot, tag, start, end, 0, 0)
+    add(log, len, event::DELIVER, slot, tag, start, end, 0, 0)
 }
 
 // Frames for an index on a transport go to this machine.
@@ -118,7 +119,7 @@ pub fn bind(
     add(
         log,
         len,
-        3,
+        event::BIND,
         transport,
         index as u64,
         bit(tag.some),
@@ -132,7 +133,7 @@ pub fn bind(
 pub fn unbind(log: &mut [u64; 768], len: usize, transport: u64, index: u32) -> usize
     ensures { λ r. ⌜ Appends (Unbind transport index ∷ []) len (now (log .entry)) r (now (log .exit)) ⌝ }
 {
-    add(log, len, 4, transport, index as u64, 0, 0, 0, 0)
+    add(log, len, event::UNBIND, transport, index as u64, 0, 0, 0, 0)
 }
 
 // The receive half of an epoch is offered to a decrypt worker.
@@ -150,7 +151,7 @@ pub fn delegate(
     add(
         log,
         len,
-        5,
+        event::DELEGATE,
         tag,
         transport,
         index as u64,
@@ -164,14 +165,24 @@ pub fn delegate(
 pub fn revoke(log: &mut [u64; 768], len: usize, tag: u64, transport: u64, index: u32) -> usize
     ensures { λ r. ⌜ Appends (Revoke tag transport index ∷ []) len (now (log .entry)) r (now (log .exit)) ⌝ }
 {
-    add(log, len, 6, tag, transport, index as u64, 0, 0, 0)
+    add(
+        log,
+        len,
+        event::REVOKE,
+        tag,
+        transport,
+        index as u64,
+        0,
+        0,
+        0,
+    )
 }
 
 // A lease's index goes back to the allocator.
 pub fn release(log: &mut [u64; 768], len: usize, index: u32) -> usize
     ensures { λ r. ⌜ Appends (Release index ∷ []) len (now (log .entry)) r (now (log .exit)) ⌝ }
 {
-    add(log, len, 7, index as u64, 0, 0, 0, 0, 0)
+    add(log, len, event::RELEASE, index as u64, 0, 0, 0, 0, 0)
 }
 
 // An epoch became current.
@@ -184,77 +195,87 @@ pub fn installed(
 ) -> usize
     ensures { λ r. ⌜ Appends (Installed tag responder evidence ∷ []) len (now (log .entry)) r (now (log .exit)) ⌝ }
 {
-    add(log, len, 8, tag, bit(responder), evidence, 0, 0, 0)
+    add(
+        log,
+        len,
+        event::INSTALLED,
+        tag,
+        bit(responder),
+        evidence,
+        0,
+        0,
+        0,
+    )
 }
 
 // An epoch's keys were discarded.
 pub fn retired(log: &mut [u64; 768], len: usize, tag: u64) -> usize
     ensures { λ r. ⌜ Appends (Retired tag ∷ []) len (now (log .entry)) r (now (log .exit)) ⌝ }
 {
-    add(log, len, 9, tag, 0, 0, 0, 0, 0)
+    add(log, len, event::RETIRED, tag, 0, 0, 0, 0, 0)
 }
 
 // An assumed epoch went back to pending.
 pub fn reverted(log: &mut [u64; 768], len: usize, tag: u64) -> usize
     ensures { λ r. ⌜ Appends (Reverted tag ∷ []) len (now (log .entry)) r (now (log .exit)) ⌝ }
 {
-    add(log, len, 10, tag, 0, 0, 0, 0, 0)
+    add(log, len, event::REVERTED, tag, 0, 0, 0, 0, 0)
 }
 
 // The peer restarted with a new startup epoch.
 pub fn peer_restarted(log: &mut [u64; 768], len: usize, epoch: u64) -> usize
     ensures { λ r. ⌜ Appends (PeerRestarted epoch ∷ []) len (now (log .entry)) r (now (log .exit)) ⌝ }
 {
-    add(log, len, 11, epoch, 0, 0, 0, 0, 0)
+    add(log, len, event::PEER_RESTARTED, epoch, 0, 0, 0, 0, 0)
 }
 
 // A cutover happened.
 pub fn rekeyed(log: &mut [u64; 768], len: usize, responder: bool) -> usize
     ensures { λ r. ⌜ Appends (Rekeyed responder ∷ []) len (now (log .entry)) r (now (log .exit)) ⌝ }
 {
-    add(log, len, 12, bit(responder), 0, 0, 0, 0, 0)
+    add(log, len, event::REKEYED, bit(responder), 0, 0, 0, 0, 0)
 }
 
 // An input changed nothing, or only what its row names.
 pub fn reject(log: &mut [u64; 768], len: usize, reason: u64) -> usize
     ensures { λ r. ⌜ Appends (Reject reason ∷ []) len (now (log .entry)) r (now (log .exit)) ⌝ }
 {
-    add(log, len, 14, reason, 0, 0, 0, 0, 0)
+    add(log, len, event::REJECT, reason, 0, 0, 0, 0, 0)
 }
 
 // An attempt or a held epoch was given up.
 pub fn abandoned(log: &mut [u64; 768], len: usize, cause: u64) -> usize
     ensures { λ r. ⌜ Appends (Abandoned cause ∷ []) len (now (log .entry)) r (now (log .exit)) ⌝ }
 {
-    add(log, len, 15, cause, 0, 0, 0, 0, 0)
+    add(log, len, event::ABANDONED, cause, 0, 0, 0, 0, 0)
 }
 
 // The machine is to be closed.
 pub fn teardown(log: &mut [u64; 768], len: usize, why: u64) -> usize
     ensures { λ r. ⌜ Appends (Teardown why ∷ []) len (now (log .entry)) r (now (log .exit)) ⌝ }
 {
-    add(log, len, 16, why, 0, 0, 0, 0, 0)
+    add(log, len, event::TEARDOWN, why, 0, 0, 0, 0, 0)
 }
 
 // A frame's counter counts as received under an epoch (`mark`).
 pub fn mark(log: &mut [u64; 768], len: usize, tag: u64, counter: u64) -> usize
     ensures { λ r. ⌜ Appends (Mark tag counter ∷ []) len (now (log .entry)) r (now (log .exit)) ⌝ }
 {
-    add(log, len, 17, tag, counter, 0, 0, 0, 0)
+    add(log, len, event::MARK, tag, counter, 0, 0, 0, 0)
 }
 
 // A handshake is to be started.
 pub fn start(log: &mut [u64; 768], len: usize, kind: u64) -> usize
     ensures { λ r. ⌜ Appends (Start kind ∷ []) len (now (log .entry)) r (now (log .exit)) ⌝ }
 {
-    add(log, len, 18, kind, 0, 0, 0, 0, 0)
+    add(log, len, event::START, kind, 0, 0, 0, 0, 0)
 }
 
 // A responder pending ended, and the msg1 that armed it enters the replay record (`PendR::end`).
 pub fn ended(log: &mut [u64; 768], len: usize, tag: u64) -> usize
     ensures { λ r. ⌜ Appends (Ended tag ∷ []) len (now (log .entry)) r (now (log .exit)) ⌝ }
 {
-    add(log, len, 19, tag, 0, 0, 0, 0, 0)
+    add(log, len, event::ENDED, tag, 0, 0, 0, 0, 0)
 }
 
 // Word `k` of place `i`; 0 outside.
@@ -304,7 +325,11 @@ fn place(log: &[u64; 768], i: usize) -> Words
 fn offers(w: Words, tag: u64) -> bool
     ensures { λ r. ⌜ r ≡ wordsOffer tag (listOf w) ⌝ }
 {
-    if w.kind == 5 { w.a == tag } else { false }
+    if w.kind == event::DELEGATE {
+        w.a == tag
+    } else {
+        false
+    }
 }
 
 // Whether an earlier event of this answer offered the epoch.
@@ -345,7 +370,7 @@ fn sealable(held: bool, cur: u64, waits: bool, pend: u64, tag: u64) -> bool
 fn stays(w: Words, held: bool, cur: u64, waits: bool, pend: u64) -> bool
     ensures { λ r. ⌜ r ≡ wordsStay (given held cur) (given waits pend) (listOf w) ⌝ }
 {
-    if w.kind == 1 {
+    if w.kind == event::PROMPT {
         sealable(held, cur, waits, pend, w.a)
     } else {
         true

@@ -1,2 +1,4 @@
-pub mod Frame
-pub mod Most
+pub mod Frames
+pub mod Laws
+pub mod Exact
+pub mod Answer

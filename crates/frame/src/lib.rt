@@ -1,247 +1,69 @@
-// A frame that authenticated: `frame` of machine.rs, and the refusals that concern a frame alone.
+// The call of a frame: a frame from the peer that authenticated is taken, or sent back by number.
 ghost use mathlib.Core.Path.{_≡_};
-ghost use Rattle.events.specs.Log.{Appends};
-ghost use Rattle.frame.specs.Frame.{Did, pendingTag, slotTag, frameBack, endedOut, pendOf, pendingFrame, currentFrame, previousFrame, frameOf};
-use cutover::Pend;
-use cycle::Cycle;
+ghost use Rattle.frame.specs.Exact.{FrameExact};
+ghost use Rattle.answer.specs.Answers.{Answers};
+ghost use Rattle.frame.specs.Frames.{frameRefused, givenOf, frameAnswer, frameTarget};
+use answer::Answer;
+use frame_slots::FrameProof;
+use refusal::Refused;
+use settings::Config;
 use state::Given;
+use state::Profile;
 use state::State;
-use time::When;
 
-// A frame that authenticated under one held epoch and passed its window. Slot 0 is the current
-// epoch, 1 the pending one, 2 the previous one.
-#[repr(C)]
-pub struct FrameProof {
-    pub tag: u64,
-    pub slot: u8,
-    pub counter: u64,
-    pub k: bool,
-    // The plaintext's length; the plaintext is at the front of the source buffer.
-    pub len: usize,
-    pub probe: bool,
-}
-
-// What a frame leaves: the state, and how long the log is.
-pub struct Framed {
-    pub state: State,
-    pub len: usize,
-}
-
-// The pending epoch's tag, in either role.
-fn pending_tag(c: Cycle) -> When
-    ensures { λ r. ⌜ r ≡ pendingTag c ⌝ }
+// 1 to 7, then 8 and 9.
+fn send_back(s: State, cfg: Config, profile: Profile, spread: i32, slot: u8, tag: u64) -> Refused
+    ensures { λ r. ⌜ r ≡ frameRefused s cfg profile spread slot tag ⌝ }
 {
-    if c.kind == 2 {
-        When {
-            some: true,
-            at: c.pendi.ep.tag,
-        }
-    } else {
-        if c.kind == 3 {
-            When {
-                some: true,
-                at: c.pendr.ep.tag,
-            }
-        } else {
-            When { some: false, at: 0 }
-        }
+    let back = refusal::before_frame(s, cfg, profile, spread);
+    if back.number != 0 {
+        return back;
+    }
+    let number = frame_slots::frame_back(s, slot, tag);
+    Refused {
+        number: number,
+        place: 0,
     }
 }
 
-// The tag of the epoch that a slot holds.
-fn slot_tag(s: State, slot: u8) -> When
-    ensures { λ r. ⌜ r ≡ slotTag s slot ⌝ }
+// What a frame is given beside the state. No row of a frame reads the extra.
+fn gather(cfg: Config, profile: Profile, time: u64, workers: bool) -> Given
+    ensures { λ r. ⌜ r ≡ givenOf cfg profile time workers ⌝ }
 {
-    if slot == 0 {
-        When {
-            some: s.cur.some,
-            at: s.cur.ep.tag,
-        }
-    } else {
-        if slot == 1 {
-            pending_tag(s.cycle)
-        } else {
-            if slot == 2 {
-                When {
-                    some: s.drain.some,
-                    at: s.drain.ep.tag,
-                }
-            } else {
-                When { some: false, at: 0 }
-            }
-        }
+    Given {
+        cfg: cfg,
+        profile: profile,
+        now: time,
+        workers: workers,
+        extra: 0,
     }
 }
 
-// 8 where the slot holds no epoch, 9 where the tag is not that epoch's, else 0.
-pub fn frame_back(s: State, slot: u8, tag: u64) -> u8
-    ensures { λ r. ⌜ r ≡ frameBack s slot tag ⌝ }
-{
-    let held = slot_tag(s, slot);
-    if held.some {
-        if held.at == tag { 0 } else { 9 }
-    } else {
-        8
-    }
-}
-
-// A pending epoch whose answer is held ends with it in the replay record.
-fn end_pending(c: Cycle, log: &mut [u64; 768], len: usize) -> usize
-    ensures { λ r. ⌜ Appends (endedOut c) len (now (log .entry)) r (now (log .exit)) ⌝ }
-{
-    if rows::and(c.kind == 3, c.pendr.answer.some) {
-        events::ended(log, len, c.pendr.ep.tag)
-    } else {
-        len
-    }
-}
-
-// The pending epoch taken out of its cycle: the frame that adopts a responder's fixes its key bit.
-fn pend_of(c: Cycle, k: bool) -> Pend
-    ensures { λ r. ⌜ r ≡ pendOf c k ⌝ }
-{
-    if c.kind == 3 {
-        let mut ep = c.pendr.ep;
-        ep.k = k;
-        let mut fin = c.pendr.ep.fin;
-        fin.some = false;
-        Pend {
-            ep: ep,
-            restart: c.pendr.restart,
-            fin: fin,
-        }
-    } else {
-        let ep = c.pendi.ep;
-        let fin = c.pendi.fin;
-        Pend {
-            ep: ep,
-            restart: c.pendi.restart,
-            fin: fin,
-        }
-    }
-}
-
-// A frame under the pending epoch makes it current.
-fn frame_pending(
+// A frame. A refused call hands back the state that it was given, and writes neither to the target
+// nor to the log.
+pub fn frame(
     s: State,
-    g: Given,
+    cfg: Config,
+    profile: Profile,
+    time: u64,
+    workers: bool,
     spread: i32,
     p: FrameProof,
     body: usize,
     source: &[u8],
     target: &mut [u8],
     log: &mut [u64; 768],
-    len: usize,
-) -> Framed
-    ensures { λ r. ⌜ Did (pendingFrame s g spread p body (now (source .entry)) (now (target .entry))) (now (target .exit)) len (now (log .entry)) r (now (log .exit)) ⌝ }
+) -> Answer
+    ensures frame { λ r. ⌜ Answers (frameAnswer s cfg profile time workers spread p body (now (source .entry)) (now (target .entry))) r (now (log .entry)) (now (log .exit)) ⌝ }
+    ensures target { λ r. ⌜ now (target .exit) ≡ frameTarget s cfg profile time workers spread p body (now (source .entry)) (now (target .entry)) ⌝ }
+    ensures exact { λ r. ⌜ FrameExact s cfg profile spread p (now (target .entry)) (frameAnswer s cfg profile time workers spread p body (now (source .entry)) (now (target .entry))) (frameTarget s cfg profile time workers spread p body (now (source .entry)) (now (target .entry))) ⌝ }
 {
-    let a = end_pending(s.cycle, log, len);
-    let pend = pend_of(s.cycle, p.k);
-    let cut = cutover::cutover(s, g, spread, pend, 1, p.k, log, a);
-    let n = deliver::deliver(
-        0,
-        pend.ep.tag,
-        body,
-        p.len,
-        g.profile.floor,
-        source,
-        target,
-        log,
-        cut.len,
-    );
-    let state = cut.state;
-    Framed {
-        state: state,
-        len: n,
+    let _n = lengths::words(log);
+    let back = send_back(s, cfg, profile, spread, p.slot, p.tag);
+    if back.number != 0 {
+        return answer::sent_back(back, s);
     }
-}
-
-// A frame under the current epoch.
-fn frame_current(
-    s: State,
-    g: Given,
-    p: FrameProof,
-    body: usize,
-    source: &[u8],
-    target: &mut [u8],
-    log: &mut [u64; 768],
-    len: usize,
-) -> Framed
-    ensures { λ r. ⌜ Did (currentFrame s g p body (now (source .entry)) (now (target .entry))) (now (target .exit)) len (now (log .entry)) r (now (log .exit)) ⌝ }
-{
-    let a = deliver::deliver(
-        0,
-        p.tag,
-        body,
-        p.len,
-        g.profile.floor,
-        source,
-        target,
-        log,
-        len,
-    );
-    let h = hear::heard_current(s, g, p.k, p.probe, log, a);
-    let state = h.state;
-    Framed {
-        state: state,
-        len: h.len,
-    }
-}
-
-// A frame under the previous epoch.
-fn frame_previous(
-    s: State,
-    g: Given,
-    p: FrameProof,
-    body: usize,
-    source: &[u8],
-    target: &mut [u8],
-    log: &mut [u64; 768],
-    len: usize,
-) -> Framed
-    ensures { λ r. ⌜ Did (previousFrame s g p body (now (source .entry)) (now (target .entry))) (now (target .exit)) len (now (log .entry)) r (now (log .exit)) ⌝ }
-{
-    let a = deliver::deliver(
-        2,
-        p.tag,
-        body,
-        p.len,
-        g.profile.floor,
-        source,
-        target,
-        log,
-        len,
-    );
-    let h = hear::heard_previous(s, g, log, a);
-    let state = h.state;
-    Framed {
-        state: state,
-        len: h.len,
-    }
-}
-
-// A frame that no refusal sends back.
-pub fn frame_accepted(
-    s: State,
-    g: Given,
-    spread: i32,
-    p: FrameProof,
-    body: usize,
-    source: &[u8],
-    target: &mut [u8],
-    log: &mut [u64; 768],
-    len: usize,
-) -> Framed
-    ensures { λ r. ⌜ Did (frameOf s g spread p body (now (source .entry)) (now (target .entry))) (now (target .exit)) len (now (log .entry)) r (now (log .exit)) ⌝ }
-{
-    let a = events::mark(log, len, p.tag, p.counter);
-    if p.slot == 1 {
-        frame_pending(s, g, spread, p, body, source, target, log, a)
-    } else {
-        if p.slot == 0 {
-            frame_current(s, g, p, body, source, target, log, a)
-        } else {
-            frame_previous(s, g, p, body, source, target, log, a)
-        }
-    }
+    let g = gather(cfg, profile, time, workers);
+    let f = frame_slots::frame_accepted(s, g, spread, p, body, source, target, log, 0);
+    answer::finish(f.state, f.len, 0)
 }

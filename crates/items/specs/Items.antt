@@ -6,9 +6,8 @@ use lib.Dec.{ltb, eqb}
 use Rattle.time.specs.Pick.{pick}
 use Rattle.time.specs.Lists.{fold}
 
--- `(C::Instant, Due)` (machine.rs): an instant, the kind's place in `enum Due` (Drain 0, Candidate 1,
--- Unadopted 2, Held 3, Probe 4, Delayed 5, Fin 6, Elicit 7, Confirm 8, DelayEnd 9, Resend 10,
--- Expire 11), and the tag or sequence number, 0 for a kind that has none
+-- `(C::Instant, Due)` (machine.rs): an instant, the kind's place in `enum Due`, and the
+-- tag or sequence number, 0 for a kind that has none
 pub record Item : Type 0 where
   pub at : ℕ
   pub kind : ℕ

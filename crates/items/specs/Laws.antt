@@ -10,8 +10,9 @@ use lib.ListN.{length, getD, take, drop, set, length-map, List·getD-append}
 use lib.Seq.{slice, append-snoc, take-suc, drop-at, getD-at, getD-take, getD-drop, getD-append-add, getD-set-same, getD-set-other, length-take-le, set-split, take-set-le, slice-empty, length-slice, drop-append-le}
 use Rattle.time.specs.Pick.{pick}
 use Rattle.time.specs.Lists.{range, range-next, range-end, range-more, length-range}
-use Rattle.time.specs.Time.{least, least-left}
-use Rattle.items.specs.Items.{Item, item, before, insert, names, listedIn, untimed}
+use Rattle.time.specs.Time.{least}
+use Rattle.time.specs.Laws.{least-left}
+use Rattle.items.specs.Items.{Item, before, insert, names, listedIn, untimed}
 use Rattle.items.specs.Arrays.{most, mostListed, itemAt, itemsFrom, itemsOf, placeFor, opened, listAt, listFrom, listOf, Wide}
 
 -- ---- ranges

@@ -9,7 +9,7 @@ use lib.Dec.{ltb, eqb}
 use lib.ListN.{length}
 use Rattle.time.specs.Pick.{pick}
 use Rattle.time.specs.Lists.{fold, fold-append}
-use Rattle.items.specs.Items.{Item, item, lessBy, before, insert, sorted, orderedFrom, ordered, names, listedIn, untimed}
+use Rattle.items.specs.Items.{Item, lessBy, before, insert, sorted, orderedFrom, ordered, names, listedIn, untimed}
 
 -- ---- the order
 

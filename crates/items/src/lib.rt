@@ -4,37 +4,11 @@
 // tag or a sequence number. A second pair of arrays holds the kinds and keys that earlier passes
 // listed.
 ghost use mathlib.Core.Path.{_≡_};
-ghost use mathlib.Core.Bool.{Bool};
 ghost use Prim.Native.Nat.{_≤_, _<_};
 ghost use lib.ListN.{length};
 ghost use Rattle.time.specs.Time.{least};
 ghost use Rattle.items.specs.Items.{item, before, names, listedIn};
 ghost use Rattle.items.specs.Arrays.{most, mostListed, itemsOf, placeFor, opened, listOf, Inserted, Noted};
-
-// The kinds, by their place in `enum Due`. `RESEND` and `EXPIRE` have the key 0.
-pub const DRAIN: u64 = 0;
-
-pub const CANDIDATE: u64 = 1;
-
-pub const UNADOPTED: u64 = 2;
-
-pub const HELD: u64 = 3;
-
-pub const PROBE: u64 = 4;
-
-pub const DELAYED: u64 = 5;
-
-pub const FIN: u64 = 6;
-
-pub const ELICIT: u64 = 7;
-
-pub const CONFIRM: u64 = 8;
-
-pub const DELAY_END: u64 = 9;
-
-pub const RESEND: u64 = 10;
-
-pub const EXPIRE: u64 = 11;
 
 // Whether the first item comes before the second: by instant, then by kind, then by key.
 fn is_before(t: u64, k: u64, x: u64, at: u64, kind: u64, key: u64) -> bool

@@ -3,3 +3,4 @@ pub mod Fill
 pub mod Rungs
 pub mod Ladder
 pub mod Worked
+pub mod Laws

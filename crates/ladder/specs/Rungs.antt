@@ -1,18 +1,17 @@
 -- The rungs of a schedule as a list, and that a plan laid out is read back as it was.
-use Prim.Native.Nat.{ℕ, zero, suc, _≤_, _<_, _+_, _-_, _*_, _/_, _%_, _^_}
+use Prim.Native.Nat.{ℕ, _≤_, _+_, _-_, _*_, _/_, _%_, _^_}
 use mathlib.Core.Bool.{Bool, true, false}
-use mathlib.Core.Path.{_≡_, refl, sym, _∙_, ap, ap₂}
+use mathlib.Core.Path.{_≡_, refl, _∙_, ap, ap₂}
 use mathlib.Core.List.{List, [], _∷_, _++_, map, map-append, append-assoc}
-use lib.Dec.{leb, ltb, eqb}
+use lib.Dec.{eqb}
 use borrow.Author.Tests.{eq-eqb}
-use lib.ListN.{length, getD, take, drop, replicate, length-map, length-append}
+use lib.ListN.{length, drop, replicate, length-map, length-append}
 use lib.Seq.{slice, take-at, getD-at, append-snoc}
 use native.Mathlib.Omega.{arith}
-use native.Mathlib.Numerals.{add-one}
 use native.Mathlib.Nat.{zero-add, pow-succ', div-div-eq-div-mul, div-one}
 use Rattle.time.specs.Pick.{pick}
 use Rattle.time.specs.Lists.{range, length-range, drop-map, drop-range}
-use Rattle.time.specs.Time.{least, least-left, least-le}
+use Rattle.time.specs.Laws.{least-left, least-le}
 use Rattle.ladder.specs.declared.Schedule.{Schedule}
 use Rattle.ladder.specs.Schedule.{Rung, bitsOf, laid, rungAt, heldOf, rungsOf}
 

@@ -3,11 +3,10 @@ use Prim.Native.Nat.{ℕ, _-_}
 use mathlib.Core.Bool.{true, false}
 use mathlib.Core.Path.{_≡_, refl}
 use mathlib.Core.List.{List, [], _∷_}
-use Rattle.time.specs.declared.When.{When}
 use Rattle.time.specs.Lists.{fold, range, kept, takeWhile}
 use Rattle.time.specs.Time.{none, at, laterOf, satMul, least, most}
 use Rattle.ladder.specs.declared.Ladder.{Ladder}
-use Rattle.ladder.specs.Schedule.{Rung, Plan, send, keepalive, cut, doubled, doublingOf, keepalives, filled, probesOf, bitsOf, laid, rungAt, heldOf, rungsOf}
+use Rattle.ladder.specs.Schedule.{maxRungs, Rung, Plan, send, keepalive, cut, doubled, doublingOf, keepalives, filled, probesOf, bitsOf, laid, rungAt, heldOf, rungsOf}
 use Rattle.ladder.specs.Ladder.{anew, remaining, nextAtOf, dueOf, dueRungs, taking, takeOf}
 
 abbrev plan : List Rung → ℕ → Plan
@@ -15,7 +14,7 @@ plan l d = record { rungs = l; dropped = d }
 
 -- P7's ladder from an origin, with its own schedule
 abbrev p7 : ℕ → Ladder
-p7 t = anew t (laid 16 (probesOf 16 5000 1 10000 3000 .rungs))
+p7 t = anew t (laid maxRungs (probesOf maxRungs 5000 1 10000 3000 .rungs))
 
 -- that from origin 0, past n of its rungs
 abbrev past : ℕ → Ladder
@@ -26,13 +25,13 @@ abbrev lateOrigin : ℕ
 lateOrigin = 18446744073709550615
 
 pub record Table : Type 0 where
-  pub p1 : doublingOf 16 1000 1 (at 1000) ≡ plan [] 1
-  pub p2 : doublingOf 16 1000 1 (at 1001) ≡ plan (send 1000 ∷ []) 0
-  pub p3 : doublingOf 16 0 1 none ≡ plan (send 1 ∷ []) 0
-  pub p4 : probesOf 16 1000 0 10000 3000 ≡ plan (keepalive 3000 ∷ keepalive 6000 ∷ keepalive 9000 ∷ []) 0
-  pub p5 : probesOf 16 1000 0 9000 3000 ≡ plan (keepalive 3000 ∷ keepalive 6000 ∷ []) 0
-  pub p6 : probesOf 16 1000 0 20 0 ≡ plan (keepalive 1 ∷ keepalive 2 ∷ keepalive 3 ∷ keepalive 4 ∷ keepalive 5 ∷ keepalive 6 ∷ keepalive 7 ∷ keepalive 8 ∷ keepalive 9 ∷ keepalive 10 ∷ keepalive 11 ∷ keepalive 12 ∷ keepalive 13 ∷ keepalive 14 ∷ keepalive 15 ∷ keepalive 16 ∷ []) 3
-  pub p7-plan : probesOf 16 5000 1 10000 3000 ≡ plan (keepalive 3000 ∷ send 5000 ∷ keepalive 8000 ∷ []) 0
+  pub p1 : doublingOf maxRungs 1000 1 (at 1000) ≡ plan [] 1
+  pub p2 : doublingOf maxRungs 1000 1 (at 1001) ≡ plan (send 1000 ∷ []) 0
+  pub p3 : doublingOf maxRungs 0 1 none ≡ plan (send 1 ∷ []) 0
+  pub p4 : probesOf maxRungs 1000 0 10000 3000 ≡ plan (keepalive 3000 ∷ keepalive 6000 ∷ keepalive 9000 ∷ []) 0
+  pub p5 : probesOf maxRungs 1000 0 9000 3000 ≡ plan (keepalive 3000 ∷ keepalive 6000 ∷ []) 0
+  pub p6 : probesOf maxRungs 1000 0 20 0 ≡ plan (keepalive 1 ∷ keepalive 2 ∷ keepalive 3 ∷ keepalive 4 ∷ keepalive 5 ∷ keepalive 6 ∷ keepalive 7 ∷ keepalive 8 ∷ keepalive 9 ∷ keepalive 10 ∷ keepalive 11 ∷ keepalive 12 ∷ keepalive 13 ∷ keepalive 14 ∷ keepalive 15 ∷ keepalive 16 ∷ []) 3
+  pub p7-plan : probesOf maxRungs 5000 1 10000 3000 ≡ plan (keepalive 3000 ∷ send 5000 ∷ keepalive 8000 ∷ []) 0
   -- nothing taken, and the ladder as it was
   pub p8 : takeOf (p7 0) 2999 ≡ record { ladder = p7 0; any = false; send = false; latest = 0; last = false }
   pub p9 : takeOf (p7 0) 3000 ≡ record { ladder = past 1; any = true; send = false; latest = 3000; last = false }

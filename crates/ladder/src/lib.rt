@@ -8,19 +8,25 @@ ghost use Prim.Native.Nat.{_<_, _-_, _^_};
 ghost use Rattle.time.specs.Pick.{pick};
 ghost use Rattle.time.specs.Lists.{fold};
 ghost use Rattle.ladder.specs.Schedule.{maxRungs, doubled as doubledOf, madeOf, doublingOf, probesOf, keepalives, rungAt, rungsOf, lastSendOf, heldOf, lastOf};
-ghost use Rattle.ladder.specs.Fill.{Fresh, lostOf, losing, putOf, putting, offered};
+ghost use Rattle.ladder.specs.Laws.{Fresh};
+ghost use Rattle.ladder.specs.Fill.{lostOf, losing, putOf, putting, offered};
 ghost use Rattle.ladder.specs.Ladder.{instantOf, nextAtOf, dueOf, taking, takeOf, anew};
 use time::When;
 
 // The most rungs a schedule holds.
 pub const MAX_RUNGS: usize = 16;
 
+// The same as a length and as a count. They have names since a cast in code is a step of its own.
+pub const MAX_LEN: u8 = MAX_RUNGS as u8;
+
+pub const MAX_COUNT: u64 = MAX_RUNGS as u64;
+
 // Offsets from an origin, in milliseconds, and what each rung carries.
 #[repr(C)]
 pub struct Schedule {
-    pub at: [u64; 16],
-    // Bit i is set where rung i is a keepalive and nothing else. The map is wider than 16 bits so
-    // that a longer schedule changes no type.
+    pub at: [u64; MAX_RUNGS],
+    // Bit i is set where rung i is a keepalive and nothing else. The map is wider than the rungs
+    // need, so that a longer schedule changes no type.
     pub keepalive: u64,
     pub len: u8,
 }
@@ -133,7 +139,7 @@ impl Made {
     {
         let mut sched = self.sched;
         let len = sched.len;
-        if len < 16 {
+        if len < MAX_LEN {
             let bit = mark(len, silent);
             let i = len as usize;
             sched.at[i] = at;
@@ -172,7 +178,7 @@ impl Made {
         ensures { λ r. ⌜ r ≡ fold (putOf maxRungs) self (keepalives gap last next) ⌝ }
     {
         let all = between(last, next) / gap;
-        let room = time::since(16, self.sched.len as u64);
+        let room = time::since(MAX_COUNT, self.sched.len as u64);
         let n = time::min(all, room);
         let mut made = self;
         let mut i: u64 = 0;
@@ -187,13 +193,13 @@ impl Made {
 impl Schedule {
     // No rungs.
     pub const EMPTY: Schedule = Schedule {
-        at: [0; 16],
+        at: [0; MAX_RUNGS],
         keepalive: 0,
         len: 0,
     };
 
     // The most rungs a schedule holds.
-    pub const MAX_RUNGS: usize = 16;
+    pub const MAX_RUNGS: usize = MAX_RUNGS;
 
     // Up to `count` doubling resends with first interval `first`, keeping only those strictly
     // before `end` when an end is given.
@@ -251,7 +257,7 @@ impl Schedule {
         ensures { λ r. ⌜ r ≡ heldOf maxRungs self ⌝ }
     {
         let n = self.len as usize;
-        if n <= 16 { n } else { 16 }
+        if n <= MAX_RUNGS { n } else { MAX_RUNGS }
     }
 
     // Whether rung `i` is a keepalive and nothing else.

@@ -1,10 +1,11 @@
 // The forms of answers. A form is some lines, with a sign for each part that the row holds:
 //   #   a number
 //   ?   a number, or `-` where the place before it has 0
-//   @   a schedule: its length, its keepalive map and its offsets, in 18 places
+//   @   a schedule: its length, its keepalive map and its offsets, in SCHEDULE places
+use leaves_requests::Form;
+use leaves_requests::ROW;
 use libc::STDOUT_FILENO;
-use lines::Output;
-use requests::Form;
+use text_lines::Output;
 
 // The output so far, and the place of the next number.
 struct Pen {
@@ -12,7 +13,7 @@ struct Pen {
     at: usize,
 }
 
-pub fn write(out: &mut [u8], o: Output, form: Form, v: &[u64; 128]) -> Output {
+pub fn write(out: &mut [u8], o: Output, form: Form, v: &[u64; ROW]) -> Output {
     let forms = b"= #
 = sched @ dropped #
 = next_at ? due # any # send # latest # last # next #
@@ -38,7 +39,7 @@ fn fill(
     forms: &[u8],
     start: usize,
     end: usize,
-    v: &[u64; 128],
+    v: &[u64; ROW],
 ) -> Output {
     let mut pen = Pen { o: o, at: 0 };
     let mut i = start;
@@ -54,7 +55,7 @@ fn byte_at(s: &[u8], i: usize) -> u8 {
     if i < s.len() { s[i] } else { 0 }
 }
 
-fn write_part(out: &mut [u8], pen: Pen, sign: u8, v: &[u64; 128]) -> Pen {
+fn write_part(out: &mut [u8], pen: Pen, sign: u8, v: &[u64; ROW]) -> Pen {
     match sign {
         b'#' => write_number(out, pen, v),
         b'?' => write_optional(out, pen, v),
@@ -71,33 +72,34 @@ fn write_byte(out: &mut [u8], pen: Pen, b: u8) -> Pen {
     }
 }
 
-fn write_number(out: &mut [u8], pen: Pen, v: &[u64; 128]) -> Pen {
+fn write_number(out: &mut [u8], pen: Pen, v: &[u64; ROW]) -> Pen {
     Pen {
-        o: pen.o.number(STDOUT_FILENO, out, requests::get(v, pen.at)),
-        at: requests::after(pen.at, 1),
+        o: pen.o
+            .number(STDOUT_FILENO, out, leaves_requests::get(v, pen.at)),
+        at: leaves_requests::after(pen.at, 1),
     }
 }
 
-fn write_optional(out: &mut [u8], pen: Pen, v: &[u64; 128]) -> Pen {
-    let is_some = requests::get(v, pen.at);
+fn write_optional(out: &mut [u8], pen: Pen, v: &[u64; ROW]) -> Pen {
+    let is_some = leaves_requests::get(v, pen.at);
     let mut next = pen;
-    next.at = requests::after(pen.at, 1);
+    next.at = leaves_requests::after(pen.at, 1);
     if is_some == 1 {
         return write_number(out, next, v);
     }
-    next.at = requests::after(pen.at, 2);
+    next.at = leaves_requests::after(pen.at, 2);
     write_byte(out, next, b'-')
 }
 
-fn write_schedule(out: &mut [u8], pen: Pen, v: &[u64; 128]) -> Pen {
-    let len = requests::byte(requests::get(v, pen.at));
+fn write_schedule(out: &mut [u8], pen: Pen, v: &[u64; ROW]) -> Pen {
+    let len = leaves_requests::byte(leaves_requests::get(v, pen.at));
     let mut written = write_run(out, pen, len, v);
-    written.at = requests::after(pen.at, 18);
+    written.at = leaves_requests::after(pen.at, leaves_requests::SCHEDULE);
     written
 }
 
 // The length and, each behind a space, the keepalive map and `n` offsets.
-fn write_run(out: &mut [u8], pen: Pen, n: u8, v: &[u64; 128]) -> Pen {
+fn write_run(out: &mut [u8], pen: Pen, n: u8, v: &[u64; ROW]) -> Pen {
     let most = n as u64;
     let mut written = write_number(out, pen, v);
     let mut i: u64 = 0;
@@ -108,7 +110,7 @@ fn write_run(out: &mut [u8], pen: Pen, n: u8, v: &[u64; 128]) -> Pen {
     written
 }
 
-fn write_spaced(out: &mut [u8], pen: Pen, v: &[u64; 128]) -> Pen {
+fn write_spaced(out: &mut [u8], pen: Pen, v: &[u64; ROW]) -> Pen {
     let spaced = write_byte(out, pen, b' ');
     write_number(out, spaced, v)
 }

@@ -4,11 +4,12 @@
 // error, and the program stops there.
 mod forms;
 
+use leaves_requests::Form;
+use leaves_requests::ROW;
 use libc::STDIN_FILENO;
 use libc::STDOUT_FILENO;
-use lines::Input;
-use lines::Output;
-use requests::Form;
+use text_lines::Input;
+use text_lines::Output;
 
 fn main() {
     let mut buf = io::large_buffer();
@@ -25,7 +26,7 @@ fn filter(buf: &mut [u8], out: &mut [u8]) {
         let line = input.line(STDIN_FILENO, buf);
         input = line.input;
         if !line.some {
-            lines::tell_no_line(number, input);
+            text_lines::tell_no_line(number, input);
             finish(out, o, number);
             return;
         }
@@ -41,7 +42,7 @@ fn filter(buf: &mut [u8], out: &mut [u8]) {
 // Writes out what is left of the answers.
 fn finish(out: &[u8], o: Output, number: u64) {
     if o.flush(STDOUT_FILENO, out).failed {
-        lines::tell(number, b"the answers cannot be written.");
+        text_lines::tell(number, b"the answers cannot be written.");
     }
 }
 
@@ -51,15 +52,15 @@ fn respond(line: &[u8], out: &mut [u8], o: Output, number: u64) -> Output {
     if is_answer(line) {
         return o;
     }
-    let mut v = [0u64; 128];
-    let request = requests::read(line, &mut v);
+    let mut v = [0u64; ROW];
+    let request = leaves_requests::read(line, &mut v);
     let scan = request.scan;
     if scan.fault == text::NONE {
-        let form = requests::answer(request.index, &mut v);
+        let form = leaves_requests::answer(request.index, &mut v);
         return write(line, out, o, number, form, &v);
     }
     finish(out, o, number);
-    lines::tell_fault(number, line, scan);
+    text_lines::tell_fault(number, line, scan);
     Output {
         at: 0,
         failed: true,
@@ -83,13 +84,13 @@ fn write(
     o: Output,
     number: u64,
     form: Form,
-    v: &[u64; 128],
+    v: &[u64; ROW],
 ) -> Output {
     let asked = o.bytes(STDOUT_FILENO, out, line);
     let ended = asked.bytes(STDOUT_FILENO, out, b"\n");
     let answered = forms::write(out, ended, form, v);
     if answered.failed {
-        lines::tell(number, b"the answers cannot be written.");
+        text_lines::tell(number, b"the answers cannot be written.");
     }
     answered
 }

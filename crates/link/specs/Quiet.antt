@@ -7,11 +7,11 @@ use Rattle.state.specs.declared.State.{State}
 use Rattle.state.specs.declared.Given.{Given}
 use Rattle.answer.specs.Outcome.{done}
 use Rattle.poll.specs.Poll.{pollOf}
-use Rattle.poll.specs.Runs.{quiet}
-use Rattle.poll.specs.Link.{Call, aPoll, link}
-use Rattle.poll.specs.Woken.{quiet-poll, quiet-still}
-use Rattle.glance.specs.Busy.{firstBusy, otherBusy, aloneOf}
-use Rattle.glance.specs.Still.{still-parts, alone-none}
+use Rattle.law_runs.specs.Runs.{quiet}
+use Rattle.law_runs.specs.Link.{Call, aPoll, link}
+use Rattle.law_runs.specs.Woken.{quiet-poll, quiet-still}
+use Rattle.link_quiet.specs.Busy.{firstBusy, otherBusy, aloneOf}
+use Rattle.link_quiet.specs.Still.{still-parts, alone-none}
 
 -- the poll that is asked about
 abbrev pub polled : Given → ℤ → Call

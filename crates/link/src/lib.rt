@@ -5,26 +5,28 @@ ghost use mathlib.Core.Path.{_≡_};
 ghost use mathlib.Core.List.{[]};
 ghost use Rattle.settings.specs.Settings.{fmp, fsp, placeOf};
 ghost use Rattle.answer.specs.Answers.{Answers};
-ghost use Rattle.calls.specs.Open.{openOf};
-ghost use Rattle.calls.specs.Exact.{OpenExact, ToldExact, WakeExact, StatusExact};
-ghost use Rattle.calls.specs.Told.{toldOf};
-ghost use Rattle.calls.specs.Read.{wokeOf, statusOf};
-ghost use Rattle.sample.specs.Sample.{wholeOf, valuesOf, flagsOf, besideOf, proofOf, answerOf};
-ghost use Rattle.frames.specs.Frames.{frameAnswer, frameTarget};
-ghost use Rattle.frames.specs.Exact.{FrameExact};
-ghost use Rattle.reply.specs.Reply.{replyOf};
-ghost use Rattle.reply.specs.Exact.{ReplyExact};
+ghost use Rattle.call_open.specs.Open.{openOf};
+ghost use Rattle.call_open.specs.Exact.{OpenExact};
+ghost use Rattle.call_sent.specs.Exact.{ToldExact};
+ghost use Rattle.call_read.specs.Exact.{WakeExact, StatusExact};
+ghost use Rattle.call_sent.specs.Told.{toldOf};
+ghost use Rattle.call_read.specs.Read.{wokeOf, statusOf};
+ghost use Rattle.link_sample.specs.Sample.{wholeOf, valuesOf, flagsOf, besideOf, proofOf, answerOf};
+ghost use Rattle.frame.specs.Frames.{frameAnswer, frameTarget};
+ghost use Rattle.frame.specs.Exact.{FrameExact};
+ghost use Rattle.call_reply.specs.Reply.{replyOf};
+ghost use Rattle.call_reply.specs.Exact.{ReplyExact};
 ghost use Rattle.poll.specs.Poll.{pollOf};
 ghost use Rattle.poll.specs.Exact.{PollExact};
 ghost use Rattle.poll.specs.Acts.{PollActs};
-ghost use Rattle.poll.specs.Link.{TwoRuns};
+ghost use Rattle.law_runs.specs.Link.{TwoRuns};
 ghost use Rattle.link.specs.Quiet.{Tells};
 use answer::Answer;
-use calls::Shown;
-use calls::Woke;
+use call_read::Shown;
+use call_read::Woke;
+use call_reply::StartReply;
 use epoch::Index;
-use frame::FrameProof;
-use reply::StartReply;
+use frame_slots::FrameProof;
 use settings::Config;
 use state::Given;
 use state::Profile;
@@ -70,7 +72,7 @@ pub extern "C" fn siklyavon_open(
     ensures open { λ r. ⌜ Answers (openOf cfg p responder transport lease workers spread time) r (now (log .entry)) (now (log .exit)) ⌝ }
     ensures exact { λ r. ⌜ OpenExact cfg p spread (openOf cfg p responder transport lease workers spread time) ⌝ }
 {
-    calls::open(
+    call_open::open(
         cfg,
         p,
         responder,
@@ -124,7 +126,7 @@ pub extern "C" fn siklyavon_frame(
     ensures exact { λ r. ⌜ FrameExact s cfg profile spread p (now (target .entry)) (frameAnswer s cfg profile time workers spread p body (now (source .entry)) (now (target .entry))) (frameTarget s cfg profile time workers spread p body (now (source .entry)) (now (target .entry))) ⌝ }
     ensures runs { λ r. ⌜ TwoRuns ⌝ }
 {
-    frames::frame(
+    frame::frame(
         s,
         cfg,
         profile,
@@ -152,7 +154,7 @@ pub extern "C" fn siklyavon_reply(
     ensures exact { λ a. ⌜ ReplyExact s cfg profile time (replyOf s cfg profile time r) ⌝ }
     ensures runs { λ a. ⌜ TwoRuns ⌝ }
 {
-    reply::reply(s, cfg, profile, time, r)
+    call_reply::reply(s, cfg, profile, time, r)
 }
 
 // The current epoch's sent count is told at `time`, with which the call is logged. The answer does
@@ -163,7 +165,7 @@ pub extern "C" fn siklyavon_sent(s: State, time: u64, count: u64) -> Answer
     ensures exact { λ r. ⌜ ToldExact s count (toldOf s count) ⌝ }
     ensures runs { λ r. ⌜ TwoRuns ⌝ }
 {
-    calls::told(s, time, count)
+    call_sent::told(s, time, count)
 }
 
 // The wake: where workers are off and something is held, a poll before it has nothing to do (the wake
@@ -173,7 +175,7 @@ pub extern "C" fn siklyavon_wake(s: State, cfg: Config, p: Profile) -> Woke
     ensures wake { λ r. ⌜ r ≡ wokeOf s cfg p ⌝ }
     ensures exact { λ r. ⌜ WakeExact s cfg p (wokeOf s cfg p) ⌝ }
 {
-    calls::wake(s, cfg, p)
+    call_read::wake(s, cfg, p)
 }
 
 // The link line.
@@ -182,7 +184,7 @@ pub extern "C" fn siklyavon_status(s: State, cfg: Config, p: Profile, time: u64)
     ensures status { λ r. ⌜ r ≡ statusOf s cfg p time ⌝ }
     ensures exact { λ r. ⌜ StatusExact s cfg p (statusOf s cfg p time) ⌝ }
 {
-    calls::status(s, cfg, p, time)
+    call_read::status(s, cfg, p, time)
 }
 
 // Whether a poll of the lent state is quiet: accepted, with no item due, no start called for, no
@@ -194,15 +196,15 @@ pub extern "C" fn siklyavon_quiet(s: &State, g: Given, spread: i32) -> bool
     ensures { λ r. ⌜ Tells (now (s .entry)) g spread r ⌝ }
 {
     let first = *s;
-    if glance::first_busy(first, g, spread) {
+    if link_quiet::first_busy(first, g, spread) {
         return false;
     }
     let flags = *s;
-    if glance::alone(flags) {
+    if link_quiet::alone(flags) {
         return true;
     }
     let other = *s;
-    glance::other_still(other, g)
+    link_quiet::other_still(other, g)
 }
 
 // A sample of the record, for the caller's layout.
@@ -210,7 +212,7 @@ pub extern "C" fn siklyavon_quiet(s: &State, g: Given, spread: i32) -> bool
 pub extern "C" fn siklyavon_sample_state(spread: i32) -> State
     ensures { λ r. ⌜ r ≡ wholeOf spread ⌝ }
 {
-    sample::whole(spread)
+    link_sample::whole(spread)
 }
 
 // A sample of the record, for the caller's layout.
@@ -218,7 +220,7 @@ pub extern "C" fn siklyavon_sample_state(spread: i32) -> State
 pub extern "C" fn siklyavon_sample_config() -> Config
     ensures { λ r. ⌜ r ≡ valuesOf ⌝ }
 {
-    sample::values()
+    link_sample::values()
 }
 
 // A sample of the record, for the caller's layout.
@@ -226,7 +228,7 @@ pub extern "C" fn siklyavon_sample_config() -> Config
 pub extern "C" fn siklyavon_sample_profile() -> Profile
     ensures { λ r. ⌜ r ≡ flagsOf ⌝ }
 {
-    sample::flags()
+    link_sample::flags()
 }
 
 // A sample of the record, for the caller's layout.
@@ -234,7 +236,7 @@ pub extern "C" fn siklyavon_sample_profile() -> Profile
 pub extern "C" fn siklyavon_sample_given() -> Given
     ensures { λ r. ⌜ r ≡ besideOf ⌝ }
 {
-    sample::beside()
+    link_sample::beside()
 }
 
 // A sample of the record, for the caller's layout.
@@ -242,7 +244,7 @@ pub extern "C" fn siklyavon_sample_given() -> Given
 pub extern "C" fn siklyavon_sample_proof() -> FrameProof
     ensures { λ r. ⌜ r ≡ proofOf ⌝ }
 {
-    sample::proof()
+    link_sample::proof()
 }
 
 // A sample of the record, for the caller's layout.
@@ -250,5 +252,5 @@ pub extern "C" fn siklyavon_sample_proof() -> FrameProof
 pub extern "C" fn siklyavon_sample_reply() -> StartReply
     ensures { λ r. ⌜ r ≡ answerOf ⌝ }
 {
-    sample::answer()
+    link_sample::answer()
 }

@@ -4,7 +4,8 @@ use mathlib.Core.Path.{_≡_, sym, _∙_}
 use mathlib.Core.Logic.{_⊎_, inl, inr}
 use native.Mathlib.Omega.{arith}
 use borrow.Author.Tests.{le-leb, lt-leb}
-use Rattle.time.specs.Time.{end, satAdd, least, decide, least-left, least-right}
+use Rattle.time.specs.Time.{end, satAdd, least}
+use Rattle.time.specs.Laws.{decide, least-left, least-right}
 
 fits : (a b : ℕ) → a + b ≤ end → satAdd a b ≡ a + b
 unfolding satAdd

@@ -3,7 +3,8 @@ use Prim.Native.Nat.{ℕ, _≤_, _<_, _+_}
 use mathlib.Core.Path.{_≡_}
 use native.Mathlib.Omega.{arith}
 use borrow.Author.Tests.{le-leb, lt-leb}
-use Rattle.time.specs.Time.{end, none, at, satAdd, sumOf, laterOf, laterByOf, laterBy-sum, least-le, most, most-ge}
+use Rattle.time.specs.Time.{end, none, at, satAdd, sumOf, laterOf, laterByOf, most}
+use Rattle.time.specs.Laws.{laterBy-sum, least-le, most-ge}
 use Rattle.settings.specs.declared.Config.{Config}
 use Rattle.settings.specs.Settings.{placeOf}
 use Rattle.settings.specs.Accepted.{accepted, confirm-fits}

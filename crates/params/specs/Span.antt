@@ -10,9 +10,10 @@ use lib.ListN.{take}
 use lib.Pow.{pow-mono}
 use Rattle.time.specs.declared.When.{When}
 use Rattle.time.specs.Lists.{fold, range, kept}
-use Rattle.time.specs.Time.{end, none, at, least, most, satMul, least-left, least-right, least-le, decide}
+use Rattle.time.specs.Time.{end, none, at, least, most, satMul}
+use Rattle.time.specs.Laws.{least-left, least-right, least-le, decide}
 use Rattle.ladder.specs.Schedule.{maxRungs, send, cut, doubled, before, madeOf, doublingOf, lastOf, lastSendOf}
-use Rattle.ladder.specs.Fill.{plan-most}
+use Rattle.ladder.specs.Laws.{plan-most}
 use Rattle.ladder.specs.Rungs.{rungs-laid}
 use Rattle.params.specs.Params.{valueOr, lastOffset, msg1Span}
 

@@ -13,12 +13,12 @@ use Rattle.state.specs.declared.Profile.{Profile}
 use Rattle.state.specs.declared.Given.{Given}
 use Rattle.wake.specs.Due.{someIn, anyDue}
 use Rattle.wake.specs.Quiet.{quietOf}
-use Rattle.refusal.specs.Sound.{Sound}
+use Rattle.law_refusal.specs.Sound.{Sound}
 use Rattle.answer.specs.Outcome.{Outcome}
-use Rattle.passes.specs.Passes.{Ended}
-use Rattle.polled.specs.Still.{passes-still, passes-speak}
-use Rattle.cleared.specs.Passes.{passes-clear}
-use Rattle.exact.specs.Numbers.{sound-words}
+use Rattle.poll_loop.specs.Passes.{Ended}
+use Rattle.law_poll.specs.Still.{passes-still, passes-speak}
+use Rattle.law_clear.specs.Passes.{passes-clear}
+use Rattle.law_exact.specs.Numbers.{sound-words}
 use Rattle.poll.specs.Poll.{givenTo, acceptedPoll, pollOf}
 use Rattle.poll.specs.Laws.{taken as poll-taken, poll-still, poll-speaks}
 use Rattle.poll.specs.Exact.{poll-exact}

@@ -17,12 +17,12 @@ use Rattle.answer.specs.declared.Answer.{Answer}
 use Rattle.answer.specs.Written.{Written}
 use Rattle.answer.specs.Laws.{written}
 use Rattle.answer.specs.Answers.{Answers, backWith, takenWith, answers-back, answers-on}
-use Rattle.passes.specs.Passes.{Ended, threePasses, Leaves}
-use Rattle.closing.specs.Closing.{unsealed, closing}
-use Rattle.closing.specs.Logs.{closedLog, unsealed-most, closed-told}
+use Rattle.poll_loop.specs.Passes.{Ended, threePasses, Leaves}
+use Rattle.poll_close.specs.Closing.{unsealed, closing}
+use Rattle.poll_close.specs.Logs.{closedLog, unsealed-most, closed-told}
 use Rattle.poll.specs.Poll.{givenTo, settled, acceptedPoll, pollOf}
-use Rattle.poll.specs.Most.{passes-most}
-use Rattle.poll.specs.After.{closing-most}
+use Rattle.law_poll.specs.Most.{passes-most}
+use Rattle.law_poll.specs.After.{closing-most}
 
 module _
     (s : State) (cfg : Config) (p : Profile) (now : ℕ) (workers : Bool) (spread : ℤ) (extra : ℕ)

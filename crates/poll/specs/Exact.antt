@@ -8,15 +8,16 @@ use mathlib.Core.List.{[], _∷_}
 use native.Mathlib.Omega.{arith}
 use lib.IntN.{ℤ}
 use Rattle.settings.specs.declared.Config.{Config}
+use Rattle.numbers.specs.Numbers.{refusedDraw}
 use Rattle.state.specs.declared.State.{State}
 use Rattle.state.specs.declared.Profile.{Profile}
-use Rattle.refusal.specs.Refusal.{anyOf, spreadBad, extraBad, first, by, givenTests, stateTests, pollTests, replyTests, beforePoll}
+use Rattle.refusal.specs.Refusal.{anyOf, spreadBad, extraBad, first, by, givenTests, stateTests, pollTests, linkTests, beforePoll}
 use Rattle.refusal.specs.First.{rising}
 use Rattle.answer.specs.Outcome.{Outcome}
 use Rattle.answer.specs.Laws.{by-tests, by-nonzero}
-use Rattle.exact.specs.Reads.{Reads, reads-less, reads-or}
-use Rattle.exact.specs.Words.{GivenOk, SpreadOk, SpreadOut, reads-spread}
-use Rattle.exact.specs.Numbers.{GivenNumbers, StateNumbers, LinkOk, Placed, Linked, anyPlace, and-then, alone-holds, alone-fails, linked}
+use Rattle.law_exact.specs.Reads.{Reads, reads-less, reads-or}
+use Rattle.law_exact.specs.Words.{GivenOk, SpreadOk, SpreadOut, reads-spread}
+use Rattle.law_exact.specs.Numbers.{GivenNumbers, StateNumbers, LinkOk, Placed, Linked, anyPlace, and-then, alone-holds, alone-fails, linked}
 use Rattle.poll.specs.Poll.{givenTo, acceptedPoll, pollOf}
 
 -- 1 to 7 pass
@@ -33,7 +34,7 @@ pub record PollExact (s : State) (cfg : Config) (p : Profile) (spread : ℤ) (ex
   -- 3 to 6
   pub state : StateNumbers (a .number) (GivenOk cfg p) s
   -- "7. A draw lies outside its range."
-  pub draws : (a .number ≡ 7) ↔ (LinkOk s cfg p × (SpreadOut (cfg .jitter) spread ⊎ (cfg .jitter < extra)))
+  pub draws : (a .number ≡ refusedDraw) ↔ (LinkOk s cfg p × (SpreadOut (cfg .jitter) spread ⊎ (cfg .jitter < extra)))
   pub place : Placed (a .number) (a .place) cfg
   -- the state remains; no event is told and no item is listed
   pub back : (a .number ≡ 0 → ⊥) → (a .state ≡ s) × (a .out ≡ []) × (a .count ≡ 0)
@@ -45,15 +46,15 @@ module _ (s : State) (cfg : Config) (p : Profile) (spread : ℤ) (extra : ℕ) w
   reads-draws : Reads out-of-range (SpreadOut (cfg .jitter) spread ⊎ (cfg .jitter < extra)) (SpreadOk (cfg .jitter) spread × (extra ≤ cfg .jitter))
   reads-draws = reads-or (reads-spread (cfg .jitter) spread) (reads-less (cfg .jitter) extra)
 
-  in-turn : Linked (beforePoll s cfg p spread extra) (first (by 7 out-of-range ∷ []) .number) s cfg p
-  unfolding pollTests replyTests givenTests stateTests rising anyPlace anyOf
-  in-turn = linked s cfg p (by 7 out-of-range ∷ []) refl refl
+  in-turn : Linked (beforePoll s cfg p spread extra) (first (by refusedDraw out-of-range ∷ []) .number) s cfg p
+  unfolding pollTests linkTests givenTests stateTests rising anyPlace anyOf
+  in-turn = linked s cfg p (by refusedDraw out-of-range ∷ []) refl refl
 
   pub poll-exact : (now : ℕ) (workers : Bool) → PollExact s cfg p spread extra (pollOf s cfg p now workers spread extra)
   unfolding pollOf acceptedPoll
   poll-exact now workers =
       let o = acceptedPoll s (givenTo cfg p now workers extra) spread in
-      let l = by-tests (beforePoll s cfg p spread extra) s o (λ x. Linked x (first (by 7 out-of-range ∷ []) .number) s cfg p) refl refl (λ z. in-turn .place .none (λ e. omega arith)) in-turn in
+      let l = by-tests (beforePoll s cfg p spread extra) s o (λ x. Linked x (first (by refusedDraw out-of-range ∷ []) .number) s cfg p) refl refl (λ z. in-turn .place .none (λ e. omega arith)) in-turn in
       record {
         accepted =
             Iff·trans (and-then (l .later 0 (inl refl)) (alone-fails reads-draws 7 (omega arith)))

@@ -15,17 +15,17 @@ use Rattle.start.specs.Start.{calledFor}
 use Rattle.wake.specs.Due.{someIn, anyDue}
 use Rattle.wake.specs.Quiet.{teardownStands, offerOwed, quietOf}
 use Rattle.refusal.specs.Refusal.{beforePoll, stateBack}
-use Rattle.refusal.specs.Sound.{Sound, sound, sounding}
+use Rattle.law_refusal.specs.Sound.{Sound, sound, sounding}
 use Rattle.answer.specs.Outcome.{Outcome, sentBack, finished, done}
 use Rattle.answer.specs.Laws.{by-taken, by-either, by-zero}
-use Rattle.pass.specs.Pass.{workOf}
-use Rattle.passes.specs.Passes.{ended, threePasses}
+use Rattle.poll_pass.specs.Pass.{workOf}
+use Rattle.poll_loop.specs.Passes.{ended, threePasses}
 use Rattle.poll.specs.Poll.{givenTo, settled, acceptedPoll, pollOf}
-use Rattle.poll.specs.Most.{passes-most}
-use Rattle.early.specs.Early.{Early}
-use Rattle.polled.specs.Kept.{passes-sound, passes-early}
-use Rattle.polled.specs.Still.{passes-still, passes-speak}
-use Rattle.poll.specs.After.{unsealed-still, closing-still, closing-speaks, closing-most}
+use Rattle.law_poll.specs.Most.{passes-most}
+use Rattle.law_early.specs.Early.{Early}
+use Rattle.law_poll.specs.Kept.{passes-sound, passes-early}
+use Rattle.law_poll.specs.Still.{passes-still, passes-speak}
+use Rattle.law_poll.specs.After.{unsealed-still, closing-still, closing-speaks, closing-most}
 
 -- four tests
 all-four : (a b c d : Bool) → not a && (not b && (not c && not d)) ≡ true → (a ≡ false) × ((b ≡ false) × ((c ≡ false) × (d ≡ false)))

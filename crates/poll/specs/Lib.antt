@@ -1,14 +1,5 @@
 pub mod Poll
-pub mod Most
 pub mod Answer
-pub mod After
 pub mod Laws
-pub mod Late
-pub mod Agree
-pub mod Runs
-pub mod Served
-pub mod Others
-pub mod Link
 pub mod Exact
 pub mod Acts
-pub mod Woken

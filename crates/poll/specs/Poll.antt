@@ -8,9 +8,9 @@ use Rattle.state.specs.declared.State.{State}
 use Rattle.state.specs.declared.Profile.{Profile}
 use Rattle.state.specs.declared.Given.{Given}
 use Rattle.refusal.specs.Refusal.{beforePoll}
-use Rattle.passes.specs.Passes.{Ended, threePasses}
+use Rattle.poll_loop.specs.Passes.{Ended, threePasses}
 use Rattle.answer.specs.Outcome.{Outcome, finished, outcomeBy}
-use Rattle.closing.specs.Closing.{unsealed, closing}
+use Rattle.poll_close.specs.Closing.{unsealed, closing}
 
 -- "A poll reads a state, settings, profile, instant, worker flag and two draws."
 abbrev pub givenTo : Config → Profile → ℕ → Bool → ℕ → Given

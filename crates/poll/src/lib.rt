@@ -3,7 +3,6 @@ ghost use Rattle.poll.specs.Poll.{pollOf};
 ghost use Rattle.answer.specs.Answers.{Answers};
 ghost use Rattle.poll.specs.Exact.{PollExact};
 ghost use Rattle.poll.specs.Acts.{PollActs};
-ghost use Rattle.poll.specs.Link.{TwoRuns};
 use answer::Answer;
 use settings::Config;
 use state::Given;
@@ -24,7 +23,6 @@ pub fn poll(
     ensures poll { λ r. ⌜ Answers (pollOf s cfg p time workers spread extra) r (now (log .entry)) (now (log .exit)) ⌝ }
     ensures exact { λ r. ⌜ PollExact s cfg p spread extra (pollOf s cfg p time workers spread extra) ⌝ }
     ensures acts { λ r. ⌜ PollActs s cfg p time workers (pollOf s cfg p time workers spread extra) ⌝ }
-    ensures runs { λ r. ⌜ TwoRuns ⌝ }
 {
     let _n = lengths::words(log);
     let back = refusal::before_poll(s, cfg, p, spread, extra);
@@ -38,8 +36,8 @@ pub fn poll(
         workers: workers,
         extra: extra,
     };
-    let t = passes::passes(s, g, spread, log);
+    let t = poll_loop::passes(s, g, spread, log);
     let left = t.state;
-    let n = closing::close(left, g, t.ended, log, t.len);
+    let n = poll_close::close(left, g, t.ended, log, t.len);
     answer::finish(left, n, t.count)
 }

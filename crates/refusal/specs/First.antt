@@ -10,7 +10,7 @@ use lib.Dec.{ltb, eqb}
 use lib.ListN.{getD}
 use borrow.Author.Tests.{ltb-true, lt-ltb, le-ltb, eq-eqb, ne-eqb}
 use Rattle.time.specs.Pick.{pick}
-use Rattle.time.specs.Time.{decide}
+use Rattle.time.specs.Laws.{decide}
 use Rattle.refusal.specs.declared.Refused.{Refused}
 use Rattle.refusal.specs.Refusal.{anyOf, Test, accepted, first, by}
 

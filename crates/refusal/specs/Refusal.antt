@@ -10,6 +10,7 @@ use Rattle.time.specs.Pick.{pick}
 use Rattle.ladder.specs.Schedule.{maxRungs}
 use Rattle.settings.specs.declared.Config.{Config}
 use Rattle.settings.specs.Settings.{placeOf}
+use Rattle.numbers.specs.Numbers.{refusedSettings, refusedProfile, refusedCandidates, refusedNoCurrent, refusedShared, refusedLadder, refusedDraw}
 use Rattle.cycle.specs.Kind.{isPendI, isPendR}
 use Rattle.candidates.specs.Held.{firsts}
 use Rattle.candidates.specs.Repeats.{repeated}
@@ -93,34 +94,34 @@ by n b = record { back = b; answer = numbered n }
 
 -- 1. "The settings fail a check of 004; the first such check's place in file order, from 1, is given."
 abbrev pub bySettings : Config → Test
-bySettings cfg = record { back = not (eqb (placeOf cfg) 0); answer = record { number = 1; place = placeOf cfg } }
+bySettings cfg = record { back = not (eqb (placeOf cfg) 0); answer = record { number = refusedSettings; place = placeOf cfg } }
 
 -- 1 and 2: what a call is given beside the state
 unfoldable pub givenTests : Config → Profile → List Test
-givenTests cfg p = bySettings cfg ∷ by 2 (profileBad p) ∷ []
+givenTests cfg p = bySettings cfg ∷ by refusedProfile (profileBad p) ∷ []
 
 -- 3 to 6: "A call is accepted when no number sends it back, a state when 3 to 6 pass it."
 unfoldable pub stateTests : State → List Test
-stateTests s = by 3 (candsBad s) ∷ by 4 (epochsBad s) ∷ by 5 (numbersBad s) ∷ by 6 (laddersBad s) ∷ []
+stateTests s = by refusedCandidates (candsBad s) ∷ by refusedNoCurrent (epochsBad s) ∷ by refusedShared (numbersBad s) ∷ by refusedLadder (laddersBad s) ∷ []
 
 -- ---- what each call tests, before those that its own arguments add (8 to 11)
 
 -- open: 1, 2, 7
 unfoldable pub openTests : Config → Profile → ℤ → List Test
-openTests cfg p spread = givenTests cfg p ++ by 7 (spreadBad (cfg .jitter) spread) ∷ []
+openTests cfg p spread = givenTests cfg p ++ by refusedDraw (spreadBad (cfg .jitter) spread) ∷ []
 
 -- poll: 1 to 7, with both draws
 unfoldable pub pollTests : State → Config → Profile → ℤ → ℕ → List Test
 pollTests s cfg p spread extra =
-    givenTests cfg p ++ stateTests s ++ by 7 (spreadBad (cfg .jitter) spread || extraBad (cfg .jitter) extra) ∷ []
+    givenTests cfg p ++ stateTests s ++ by refusedDraw (spreadBad (cfg .jitter) spread || extraBad (cfg .jitter) extra) ∷ []
 
 -- frame: 1 to 7
 unfoldable pub frameTests : State → Config → Profile → ℤ → List Test
-frameTests s cfg p spread = givenTests cfg p ++ stateTests s ++ by 7 (spreadBad (cfg .jitter) spread) ∷ []
+frameTests s cfg p spread = givenTests cfg p ++ stateTests s ++ by refusedDraw (spreadBad (cfg .jitter) spread) ∷ []
 
 -- start reply, wake, status: 1 to 6
-unfoldable pub replyTests : State → Config → Profile → List Test
-replyTests s cfg p = givenTests cfg p ++ stateTests s
+unfoldable pub linkTests : State → Config → Profile → List Test
+linkTests s cfg p = givenTests cfg p ++ stateTests s
 
 -- ---- the answers
 
@@ -137,8 +138,8 @@ beforePoll s cfg p spread extra = first (pollTests s cfg p spread extra)
 abbrev pub beforeFrame : State → Config → Profile → ℤ → Refused
 beforeFrame s cfg p spread = first (frameTests s cfg p spread)
 
-abbrev pub beforeReply : State → Config → Profile → Refused
-beforeReply s cfg p = first (replyTests s cfg p)
+abbrev pub beforeLink : State → Config → Profile → Refused
+beforeLink s cfg p = first (linkTests s cfg p)
 
 -- a told sent count has neither settings nor profile
 abbrev pub beforeTold : State → Refused

@@ -1,9 +1,10 @@
 // Refusals 1 to 7: what a call tests before it does anything.
 ghost use mathlib.Core.Path.{_≡_};
-ghost use Rattle.refusal.specs.Refusal.{profileBad, isPending, epochsBadOf, numbersBad, ladderBad, laddersBad, spreadBad, extraBad, first, givenTests, stateBack, beforeOpen, beforePoll, beforeFrame, beforeReply, beforeTold};
+ghost use Rattle.refusal.specs.Refusal.{profileBad, isPending, epochsBadOf, numbersBad, ladderBad, laddersBad, spreadBad, extraBad, first, givenTests, stateBack, beforeOpen, beforePoll, beforeFrame, beforeLink, beforeTold};
 ghost use Rattle.refusal.specs.Standing.{pendingEp, sharedOf, tagsBad, standingBad, eitherBad, epochBad, heldBad, cycleBad};
 use cycle::Cycle;
 use epoch::Epoch;
+use ladder::MAX_LEN;
 use settings::Config;
 use state::Profile;
 use state::State;
@@ -32,11 +33,11 @@ pub fn profile_bad(p: Profile) -> bool
     true
 }
 
-// 6: a ladder with more than 16 rungs, or one that stands past its last.
+// 6: a ladder with more than MAX_RUNGS rungs, or one that stands past its last.
 pub fn ladder_bad(len: u8, next: u8) -> bool
     ensures { λ r. ⌜ r ≡ ladderBad len next ⌝ }
 {
-    if 16 < len { true } else { len < next }
+    if MAX_LEN < len { true } else { len < next }
 }
 
 // 7: a spread outside -j to j.
@@ -61,14 +62,18 @@ pub fn extra_bad(j: u16, extra: u32) -> bool
 fn is_pending(kind: u8) -> bool
     ensures { λ r. ⌜ r ≡ isPending kind ⌝ }
 {
-    if kind == 2 { true } else { kind == 3 }
+    if kind == numbers::cycle::PENDI {
+        true
+    } else {
+        kind == numbers::cycle::PENDR
+    }
 }
 
 // The pending epoch, where there is one.
 fn pending_epoch(c: Cycle) -> Epoch
     ensures { λ r. ⌜ r ≡ pendingEp c ⌝ }
 {
-    if c.kind == 2 {
+    if c.kind == numbers::cycle::PENDI {
         let own = c.pendi.ep;
         return own;
     }
@@ -153,10 +158,10 @@ fn held_bad(some: bool, e: Epoch) -> bool
 fn cycle_bad(c: Cycle) -> bool
     ensures { λ r. ⌜ r ≡ cycleBad c ⌝ }
 {
-    if c.kind == 1 {
+    if c.kind == numbers::cycle::INIT {
         return ladder_bad(c.init.ladder.sched.len, c.init.ladder.next);
     }
-    if c.kind == 2 {
+    if c.kind == numbers::cycle::PENDI {
         return either_bad(
             c.pendi.fin.some,
             c.pendi.fin.ladder.sched.len,
@@ -222,17 +227,17 @@ pub fn state_back(s: State) -> u8
     ensures { λ r. ⌜ r ≡ stateBack s ⌝ }
 {
     if 32 < s.cands.len {
-        return 3;
+        return numbers::refused::CANDIDATES;
     }
     let stands = is_pending(s.cycle.kind);
     if epochs_bad(s.cur.some, stands, s.drain.some) {
-        return 4;
+        return numbers::refused::NO_CURRENT;
     }
     if numbers_bad(s) {
-        return 5;
+        return numbers::refused::SHARED;
     }
     if ladders_bad(s) {
-        return 6;
+        return numbers::refused::LADDER;
     }
     0
 }
@@ -244,13 +249,13 @@ fn before_given(cfg: Config, p: Profile) -> Refused
     let place = settings::place(cfg);
     if place != 0 {
         return Refused {
-            number: 1,
+            number: numbers::refused::SETTINGS,
             place: place,
         };
     }
     if profile_bad(p) {
         return Refused {
-            number: 2,
+            number: numbers::refused::PROFILE,
             place: 0,
         };
     }
@@ -270,7 +275,7 @@ pub fn before_open(cfg: Config, p: Profile, spread: i32) -> Refused
     }
     if spread_bad(cfg.jitter, spread) {
         return Refused {
-            number: 7,
+            number: numbers::refused::DRAW,
             place: 0,
         };
     }
@@ -289,8 +294,8 @@ pub fn before_told(s: State) -> Refused
 }
 
 // What a start reply tests before its own 10, and what wake and status test: 1 to 6.
-pub fn before_reply(s: State, cfg: Config, p: Profile) -> Refused
-    ensures { λ r. ⌜ r ≡ beforeReply s cfg p ⌝ }
+pub fn before_link(s: State, cfg: Config, p: Profile) -> Refused
+    ensures { λ r. ⌜ r ≡ beforeLink s cfg p ⌝ }
 {
     let back = before_given(cfg, p);
     if back.number != 0 {
@@ -303,13 +308,13 @@ pub fn before_reply(s: State, cfg: Config, p: Profile) -> Refused
 pub fn before_frame(s: State, cfg: Config, p: Profile, spread: i32) -> Refused
     ensures { λ r. ⌜ r ≡ beforeFrame s cfg p spread ⌝ }
 {
-    let back = before_reply(s, cfg, p);
+    let back = before_link(s, cfg, p);
     if back.number != 0 {
         return back;
     }
     if spread_bad(cfg.jitter, spread) {
         return Refused {
-            number: 7,
+            number: numbers::refused::DRAW,
             place: 0,
         };
     }
@@ -326,7 +331,7 @@ pub fn before_poll(s: State, cfg: Config, p: Profile, spread: i32, extra: u32) -
     }
     if extra_bad(cfg.jitter, extra) {
         return Refused {
-            number: 7,
+            number: numbers::refused::DRAW,
             place: 0,
         };
     }

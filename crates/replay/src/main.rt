@@ -4,7 +4,8 @@
 mod reading;
 
 use libc::STDIN_FILENO;
-use lines::Input;
+use text_form::ROW;
+use text_lines::Input;
 
 fn main() {
     let mut buf = [0u8; 524288];
@@ -14,7 +15,7 @@ fn main() {
 }
 
 fn filter(buf: &mut [u8], out: &mut [u8], kept: &mut [u8]) {
-    let mut v = [0u64; 655];
+    let mut v = [0u64; ROW];
     let mut input = Input::new();
     let mut step = reading::none();
     let mut number: u64 = 0;

@@ -1,13 +1,14 @@
 // Lists, line by line.
-use blocks::Block;
-use blocks::FRAME;
-use blocks::OPEN;
-use blocks::Step;
-use blocks::copied;
 use libc::STDOUT_FILENO;
-use lines::Input;
-use lines::Output;
+use replay_blocks::Block;
+use replay_blocks::FRAME;
+use replay_blocks::OPEN;
+use replay_blocks::Step;
+use replay_blocks::copied;
 use text::Scan;
+use text_form::ROW;
+use text_lines::Input;
+use text_lines::Output;
 
 // A line: the place of its first word among those that `respond` lists, the scan past that word,
 // and its number.
@@ -20,7 +21,7 @@ struct Begun {
 pub fn none() -> Step {
     Step {
         o: Output::new(),
-        block: blocks::blank(false),
+        block: replay_blocks::blank(false),
         stop: false,
     }
 }
@@ -31,7 +32,7 @@ pub fn respond(
     out: &mut [u8],
     step: Step,
     kept: &mut [u8],
-    v: &mut [u64; 655],
+    v: &mut [u64; ROW],
     number: u64,
 ) -> Step {
     if is_answer(line) {
@@ -69,7 +70,7 @@ fn read_on(
     out: &mut [u8],
     step: Step,
     kept: &mut [u8],
-    v: &mut [u64; 655],
+    v: &mut [u64; ROW],
     begun: Begun,
 ) -> Step {
     let index = begun.index;
@@ -89,7 +90,7 @@ fn checked(step: Step, number: u64) -> Step {
         return step;
     }
     if step.o.failed {
-        lines::tell(number, b"the answers cannot be written.");
+        text_lines::tell(number, b"the answers cannot be written.");
     }
     let mut next = step;
     next.stop = step.o.failed;
@@ -104,21 +105,21 @@ fn stopped(line: &[u8], out: &[u8], step: Step, number: u64, scan: Scan) -> Step
 }
 
 fn tell_fault(number: u64, line: &[u8], scan: Scan) {
-    if scan.fault != hex::NOT_HEX {
-        lines::tell_fault(number, line, scan);
+    if scan.fault != text_hex::NOT_HEX {
+        text_lines::tell_fault(number, line, scan);
         return;
     }
     if text::ordinal(line, scan.at) == 12 {
-        lines::tell(number, b"field 12 is not a buffer in hex.");
+        text_lines::tell(number, b"field 12 is not a buffer in hex.");
     } else {
-        lines::tell(number, b"field 13 is not a buffer in hex.");
+        text_lines::tell(number, b"field 13 is not a buffer in hex.");
     }
 }
 
 // Writes out what was answered, and tells why no more is.
 fn stopped_by(out: &[u8], step: Step, number: u64, words: &[u8]) -> Step {
     finish(out, step.o, number);
-    lines::tell(number, words);
+    text_lines::tell(number, words);
     halted(step)
 }
 
@@ -130,7 +131,7 @@ fn halted(step: Step) -> Step {
 
 fn finish(out: &[u8], o: Output, number: u64) {
     if o.flush(STDOUT_FILENO, out).failed {
-        lines::tell(number, b"the answers cannot be written.");
+        text_lines::tell(number, b"the answers cannot be written.");
     }
 }
 
@@ -140,24 +141,24 @@ fn read_begin(
     out: &mut [u8],
     step: Step,
     kept: &[u8],
-    v: &mut [u64; 655],
+    v: &mut [u64; ROW],
     begun: Begun,
 ) -> Step {
-    let scan = form::read_fields(line, begun.scan, form::BLOCK, form::ARGS, v);
+    let scan = text_form::read_fields(line, begun.scan, text_form::BLOCK, text_form::ARGS, v);
     if scan.fault != text::NONE {
         return stopped(line, out, step, begun.number, scan);
     }
-    let closed = blocks::close(out, step, kept, v);
+    let closed = replay_blocks::close(out, step, kept, v);
     let o = copied(line, out, closed);
     Step {
         o: o,
-        block: blocks::blank(begun.index == 1),
+        block: replay_blocks::blank(begun.index == 1),
         stop: false,
     }
 }
 
-fn read_cfg(line: &[u8], out: &mut [u8], step: Step, v: &mut [u64; 655], begun: Begun) -> Step {
-    let scan = form::read_fields(line, begun.scan, form::CFG, form::SETTINGS, v);
+fn read_cfg(line: &[u8], out: &mut [u8], step: Step, v: &mut [u64; ROW], begun: Begun) -> Step {
+    let scan = text_form::read_fields(line, begun.scan, text_form::CFG, text_form::SETTINGS, v);
     if scan.fault != text::NONE {
         return stopped(line, out, step, begun.number, scan);
     }
@@ -170,8 +171,8 @@ fn read_cfg(line: &[u8], out: &mut [u8], step: Step, v: &mut [u64; 655], begun: 
     }
 }
 
-fn read_profile(line: &[u8], out: &mut [u8], step: Step, v: &mut [u64; 655], begun: Begun) -> Step {
-    let scan = form::read_fields(line, begun.scan, form::PROFILE, form::PROFILES, v);
+fn read_profile(line: &[u8], out: &mut [u8], step: Step, v: &mut [u64; ROW], begun: Begun) -> Step {
+    let scan = text_form::read_fields(line, begun.scan, text_form::PROFILE, text_form::PROFILES, v);
     if scan.fault != text::NONE {
         return stopped(line, out, step, begun.number, scan);
     }
@@ -189,10 +190,10 @@ fn read_state(
     out: &mut [u8],
     step: Step,
     kept: &mut [u8],
-    v: &mut [u64; 655],
+    v: &mut [u64; ROW],
     begun: Begun,
 ) -> Step {
-    let read = form::read_state(line, begun.scan, v);
+    let read = text_form::read_state(line, begun.scan, v);
     let scan = read.scan;
     if scan.fault != text::NONE {
         return stopped(line, out, step, begun.number, scan);
@@ -210,41 +211,41 @@ fn read_state(
 // Keeps the line of a state that claims more than the row keeps.
 fn claimed(line: &[u8], kept: &mut [u8], cut: bool) -> usize {
     if cut {
-        return lines::put(kept, 0, line);
+        return text_lines::put(kept, 0, line);
     }
     0
 }
 
 // Every call but `frame`.
-fn read_call(line: &[u8], out: &mut [u8], step: Step, v: &mut [u64; 655], begun: Begun) -> Step {
-    let scan = form::read_fields(line, begun.scan, part(begun.index), form::ARGS, v);
+fn read_call(line: &[u8], out: &mut [u8], step: Step, v: &mut [u64; ROW], begun: Begun) -> Step {
+    let scan = text_form::read_fields(line, begun.scan, part(begun.index), text_form::ARGS, v);
     if scan.fault != text::NONE {
         return stopped(line, out, step, begun.number, scan);
     }
     if !ready(step.block, begun.index) {
         return stopped_early(out, step, begun.number);
     }
-    blocks::answer(line, out, step, v, begun.index)
+    replay_blocks::answer(line, out, step, v, begun.index)
 }
 
 fn part(index: usize) -> u8 {
     match index {
-        OPEN => form::OPEN,
-        blocks::POLL => form::POLL,
-        blocks::REPLY => form::REPLY,
-        blocks::SENT => form::SENT,
-        blocks::WAKE => form::WAKE,
-        _ => form::STATUS,
+        OPEN => text_form::OPEN,
+        replay_blocks::POLL => text_form::POLL,
+        replay_blocks::REPLY => text_form::REPLY,
+        replay_blocks::SENT => text_form::SENT,
+        replay_blocks::WAKE => text_form::WAKE,
+        _ => text_form::STATUS,
     }
 }
 
 // `frame`, whose buffers have at most 65,536 bytes each.
-fn read_frame(line: &[u8], out: &mut [u8], step: Step, v: &mut [u64; 655], begun: Begun) -> Step {
+fn read_frame(line: &[u8], out: &mut [u8], step: Step, v: &mut [u64; ROW], begun: Begun) -> Step {
     let mut target = [0u8; 65536];
     let mut source = [0u8; 65536];
-    let numbers = form::read_first(line, begun.scan, form::FRAME, form::ARGS, v);
-    let to = hex::read(line, numbers, &mut target);
-    let from = hex::read(line, to.scan, &mut source);
+    let numbers = text_form::read_first(line, begun.scan, text_form::FRAME, text_form::ARGS, v);
+    let to = text_hex::read(line, numbers, &mut target);
+    let from = text_hex::read(line, to.scan, &mut source);
     let scan = from.scan.end(line);
     if scan.fault != text::NONE {
         return stopped(line, out, step, begun.number, scan);
@@ -260,7 +261,7 @@ fn answer_from(
     line: &[u8],
     out: &mut [u8],
     step: Step,
-    v: &mut [u64; 655],
+    v: &mut [u64; ROW],
     source: &[u8],
     n: usize,
     target: &mut [u8],
@@ -277,7 +278,7 @@ fn answer_to(
     line: &[u8],
     out: &mut [u8],
     step: Step,
-    v: &mut [u64; 655],
+    v: &mut [u64; ROW],
     source: &[u8],
     target: &mut [u8],
     n: usize,
@@ -285,7 +286,7 @@ fn answer_to(
     if target.len() < n {
         return halted(step);
     }
-    blocks::answer_frame(line, out, step, v, source, &mut target[..n])
+    replay_blocks::answer_frame(line, out, step, v, source, &mut target[..n])
 }
 
 // Whether the lines that a call needs stand before it: every call needs settings and a profile, and
@@ -319,9 +320,9 @@ fn stopped_early(out: &[u8], step: Step, number: u64) -> Step {
 }
 
 // The end of the input, or what keeps the next line from being read.
-pub fn end(out: &mut [u8], step: Step, kept: &[u8], v: &[u64; 655], number: u64, input: Input) {
-    if lines::tell_no_line(number, input) {
-        let o = blocks::close(out, step, kept, v);
+pub fn end(out: &mut [u8], step: Step, kept: &[u8], v: &[u64; ROW], number: u64, input: Input) {
+    if text_lines::tell_no_line(number, input) {
+        let o = replay_blocks::close(out, step, kept, v);
         finish(out, o, number);
     } else {
         finish(out, step.o, number);

@@ -1,2 +1,3 @@
 pub mod Retire
 pub mod Most
+pub mod Laws

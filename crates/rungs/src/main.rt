@@ -1,15 +1,16 @@
 // Reads one line, `probes FIRST COUNT END GAP` or `doubling FIRST COUNT` with or without END, and
 // writes the rungs of that schedule and how many were dropped. Anything else is told on standard
 // error, and then nothing is written.
+use ladder::MAX_RUNGS;
 use ladder::Made;
 use ladder::Schedule;
 use libc::STDERR_FILENO;
 use libc::STDIN_FILENO;
 use libc::STDOUT_FILENO;
-use lines::Input;
-use lines::Line;
-use lines::Output;
 use text::Scan;
+use text_lines::Input;
+use text_lines::Line;
+use text_lines::Output;
 use time::When;
 
 const MOST: u64 = 18446744073709551615;
@@ -41,8 +42,8 @@ fn run(buf: &mut [u8], out: &mut [u8]) {
     let first = Input::new().line(STDIN_FILENO, buf);
     let rest = first.input;
     if !first.some {
-        if lines::tell_no_line(1, rest) {
-            lines::tell(1, b"there is no line.");
+        if text_lines::tell_no_line(1, rest) {
+            text_lines::tell(1, b"there is no line.");
         }
         return;
     }
@@ -129,10 +130,10 @@ fn byte(n: u64) -> u8 {
 fn ends(input: Input, buf: &mut [u8]) -> bool {
     let next = skip_empty(input, buf);
     if next.line.some {
-        lines::tell(next.number, b"only one line is read.");
+        text_lines::tell(next.number, b"only one line is read.");
         return false;
     }
-    lines::tell_no_line(next.number, next.line.input)
+    text_lines::tell_no_line(next.number, next.line.input)
 }
 
 // The first line after the first that is not empty, with its number.
@@ -174,8 +175,8 @@ fn tell_fault(line: &[u8], scan: Scan) {
     let fault = scan.fault;
     match fault {
         text::NONE => (),
-        text::NOT_WORD => lines::tell(1, b"the first word must be probes or doubling."),
-        text::EXTRA => lines::tell(1, b"there is a field too many."),
+        text::NOT_WORD => text_lines::tell(1, b"the first word must be probes or doubling."),
+        text::EXTRA => text_lines::tell(1, b"there is a field too many."),
         text::MISSING => tell_named(n, b" is missing."),
         _ => tell_range(n),
     }
@@ -211,7 +212,7 @@ fn write(out: &mut [u8], made: Made) {
     let listed = rungs(out, headed, sched);
     let all = dropped(out, listed, made.dropped);
     if all.flush(STDOUT_FILENO, out).failed {
-        lines::tell(1, b"standard output cannot be written.");
+        text_lines::tell(1, b"standard output cannot be written.");
     }
 }
 
@@ -241,7 +242,7 @@ fn rung(out: &mut [u8], o: Output, sched: Schedule, i: usize) -> Output {
 }
 
 fn offset(sched: Schedule, i: usize) -> u64 {
-    if i < 16 { sched.at[i] } else { 0 }
+    if i < MAX_RUNGS { sched.at[i] } else { 0 }
 }
 
 // Bit `i` of `map` is set where rung `i` is a keepalive.

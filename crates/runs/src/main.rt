@@ -4,7 +4,8 @@
 mod step;
 
 use libc::STDIN_FILENO;
-use lines::Input;
+use text_form::ROW;
+use text_lines::Input;
 
 fn main() {
     let mut buf = io::large_buffer();
@@ -13,7 +14,7 @@ fn main() {
 }
 
 fn filter(buf: &mut [u8], out: &mut [u8]) {
-    let mut v = [0u64; 655];
+    let mut v = [0u64; ROW];
     let mut input = Input::new();
     let mut step = step::begin(out, &mut v);
     let mut number: u64 = 0;

@@ -1,10 +1,11 @@
 // Lines, one after another.
 use libc::STDERR_FILENO;
 use libc::STDOUT_FILENO;
-use lines::Input;
-use lines::Output;
-use shown::Call;
+use runs_shown::Call;
 use text::Scan;
+use text_form::ROW;
+use text_lines::Input;
+use text_lines::Output;
 
 // The output so far; how many calls there were, and the instant of the last; whether there is a
 // link; and whether the program is to stop.
@@ -15,9 +16,9 @@ pub struct Step {
     pub stop: bool,
 }
 
-pub fn begin(out: &mut [u8], v: &mut [u64; 655]) -> Step {
-    named::start(v);
-    let headed = shown::heading(out, Output::new());
+pub fn begin(out: &mut [u8], v: &mut [u64; ROW]) -> Step {
+    runs_named::start(v);
+    let headed = runs_shown::heading(out, Output::new());
     Step {
         o: headed,
         call: Call { number: 0, time: 0 },
@@ -28,15 +29,15 @@ pub fn begin(out: &mut [u8], v: &mut [u64; 655]) -> Step {
 
 // The end of the input, or what keeps the next line from being read.
 pub fn end(out: &[u8], step: Step, number: u64, input: Input) {
-    lines::tell_no_line(number, input);
+    text_lines::tell_no_line(number, input);
     finish(out, step.o, number);
 }
 
-pub fn respond(line: &[u8], out: &mut [u8], step: Step, v: &mut [u64; 655], number: u64) -> Step {
+pub fn respond(line: &[u8], out: &mut [u8], step: Step, v: &mut [u64; ROW], number: u64) -> Step {
     if passed(line) {
         return step;
     }
-    let word = named::first(line);
+    let word = runs_named::first(line);
     let scan = word.scan;
     let part = word.index;
     if scan.fault != text::NONE {
@@ -58,14 +59,22 @@ fn take(
     line: &[u8],
     out: &mut [u8],
     step: Step,
-    v: &mut [u64; 655],
+    v: &mut [u64; ROW],
     number: u64,
     part: usize,
     scan: Scan,
 ) -> Step {
     match part {
-        named::SET | named::PROFILE => take_settings(line, out, step, v, number, part, scan),
-        named::STATE => take_state(line, out, step, v, number, scan),
+        runs_named::SET | runs_named::PROFILE => take_settings(
+            line,
+            out,
+            step,
+            v,
+            number,
+            part,
+            scan,
+        ),
+        runs_named::STATE => take_state(line, out, step, v, number, scan),
         _ => take_call(line, out, step, v, number, part, scan),
     }
 }
@@ -74,12 +83,12 @@ fn take_settings(
     line: &[u8],
     out: &[u8],
     step: Step,
-    v: &mut [u64; 655],
+    v: &mut [u64; ROW],
     number: u64,
     part: usize,
     scan: Scan,
 ) -> Step {
-    let past = named::read_settings(line, scan, part, v);
+    let past = runs_named::read_settings(line, scan, part, v);
     if past.fault != text::NONE {
         return stopped(line, out, step, number, past);
     }
@@ -91,11 +100,11 @@ fn take_state(
     line: &[u8],
     out: &[u8],
     step: Step,
-    v: &mut [u64; 655],
+    v: &mut [u64; ROW],
     number: u64,
     scan: Scan,
 ) -> Step {
-    let read = form::read_state(line, scan, v);
+    let read = text_form::read_state(line, scan, v);
     let past = read.scan;
     if past.fault != text::NONE {
         return stopped(line, out, step, number, past);
@@ -109,12 +118,12 @@ fn take_call(
     line: &[u8],
     out: &mut [u8],
     step: Step,
-    v: &mut [u64; 655],
+    v: &mut [u64; ROW],
     number: u64,
     part: usize,
     scan: Scan,
 ) -> Step {
-    let past = named::read_call(line, scan, part, step.call.time, v);
+    let past = runs_named::read_call(line, scan, part, step.call.time, v);
     if past.fault != text::NONE {
         return stopped(line, out, step, number, past);
     }
@@ -131,15 +140,15 @@ fn take_call(
 
 // Every call but `open` needs a link.
 fn ready(link: bool, part: usize) -> bool {
-    if link { true } else { part == named::OPEN }
+    if link { true } else { part == runs_named::OPEN }
 }
 
-fn call(out: &mut [u8], step: Step, v: &mut [u64; 655], part: usize) -> Step {
+fn call(out: &mut [u8], step: Step, v: &mut [u64; ROW], part: usize) -> Step {
     let call = Call {
         number: time::sat_add(step.call.number, 1),
-        time: form::number_at(v, form::ARGS, 0),
+        time: text_form::number_at(v, text_form::ARGS, 0),
     };
-    let told = telling::answer(out, step.o, call, v, part);
+    let told = runs_telling::answer(out, step.o, call, v, part);
     let o = told.o;
     Step {
         o: o,
@@ -159,7 +168,7 @@ fn checked(step: Step, number: u64) -> Step {
         return step;
     }
     if step.o.failed {
-        lines::tell(number, b"the answers cannot be written.");
+        text_lines::tell(number, b"the answers cannot be written.");
     }
     let mut next = step;
     next.stop = step.o.failed;
@@ -174,11 +183,11 @@ fn stopped(line: &[u8], out: &[u8], step: Step, number: u64, scan: Scan) -> Step
 }
 
 fn tell_fault(number: u64, line: &[u8], scan: Scan) {
-    if scan.fault == named::TWICE {
+    if scan.fault == runs_named::TWICE {
         tell_twice(number, text::ordinal(line, scan.at));
         return;
     }
-    lines::tell_fault(number, line, scan);
+    text_lines::tell_fault(number, line, scan);
 }
 
 fn tell_twice(number: u64, field: usize) {
@@ -192,7 +201,7 @@ fn tell_twice(number: u64, field: usize) {
 // Writes out what was answered, and tells why no more is.
 fn stopped_by(out: &[u8], step: Step, number: u64, words: &[u8]) -> Step {
     finish(out, step.o, number);
-    lines::tell(number, words);
+    text_lines::tell(number, words);
     halted(step)
 }
 
@@ -204,6 +213,6 @@ fn halted(step: Step) -> Step {
 
 fn finish(out: &[u8], o: Output, number: u64) {
     if o.flush(STDOUT_FILENO, out).failed {
-        lines::tell(number, b"the answers cannot be written.");
+        text_lines::tell(number, b"the answers cannot be written.");
     }
 }

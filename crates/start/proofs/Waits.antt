@@ -6,7 +6,8 @@ use mathlib.Core.List.{[], _∷_, _++_}
 use native.Mathlib.Omega.{arith}
 use native.Mathlib.Nat.{le-trans}
 use Rattle.time.specs.Pick.{pick}
-use Rattle.time.specs.Time.{laterOf, least, most, least-left}
+use Rattle.time.specs.Time.{laterOf, least, most}
+use Rattle.time.specs.Laws.{least-left}
 use Rattle.settings.specs.declared.Config.{Config}
 use Rattle.state.specs.declared.Memory.{Memory}
 use Rattle.start.specs.Start.{latestOf, latestIn, softMet, enoughSent, triggerAt, silenceAt, floorEnds, dampedEnds, backedEnds, silenceWaits, scheduledWaits, scheduledAfter, atOf}

@@ -9,8 +9,10 @@ use borrow.Author.Tests.{leb-true, leb-false, ltb-false, le-leb}
 use lib.Dec.{leb, ltb}
 use Rattle.time.specs.declared.When.{When}
 use Rattle.time.specs.Pick.{pick}
-use Rattle.time.specs.Time.{none, at, laterOf, backoffOf, least, most, reachedOf, least-le}
+use Rattle.time.specs.Time.{none, at, laterOf, backoffOf, least, most, reachedOf}
+use Rattle.time.specs.Laws.{least-le}
 use Rattle.settings.specs.declared.Config.{Config}
+use Rattle.numbers.specs.Numbers.{startScheduled, startSilence}
 use Rattle.state.specs.Parts.{listed}
 use Rattle.state.specs.declared.Memory.{Memory}
 use Rattle.state.specs.declared.State.{State}
@@ -194,7 +196,7 @@ module _ (m : Memory) (cfg : Config) (started now : ℕ) where
           → (f ≡ true → d ≡ false → scheduled ≡ true → first ≤ now)
           → (f ≡ true → d ≡ false → silent ≡ true → both ≤ now)
           → (silent ≡ true → m .«sent_data» ≡ true)
-          → pick (f && not d) (pick scheduled (at 0) (pick (silence && silent) (at 1) none)) none .some ≡ true
+          → pick (f && not d) (pick scheduled (at startScheduled) (pick (silence && silent) (at startSilence) none)) none .some ≡ true
           → pick (silence && m .«sent_data») both first ≤ now
       under false d scheduled silence silent hs hq hd p = absurd (false≢true p)
       under true true scheduled silence silent hs hq hd p = absurd (false≢true p)

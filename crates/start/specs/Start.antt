@@ -8,6 +8,7 @@ use Rattle.time.specs.declared.When.{When}
 use Rattle.time.specs.Pick.{pick}
 use Rattle.time.specs.Time.{none, at, laterOf, satAdd, least, most, backoffOf}
 use Rattle.settings.specs.declared.Config.{Config}
+use Rattle.numbers.specs.Numbers.{startScheduled, startSilence}
 use Rattle.cycle.specs.Kind.{isIdle}
 use Rattle.state.specs.Parts.{listed}
 use Rattle.state.specs.declared.Memory.{Memory}
@@ -115,7 +116,7 @@ module _ (m : Memory) (cfg : Config) (started sent : ℕ) where
   unfoldable pub kindOf : Bool → ℕ → When
   kindOf silence now =
       pick (floorsPassed m cfg started now && not (dampedNow m cfg sent now))
-      (pick (scheduledNow now) (at 0) (pick (silence && silentNow now) (at 1) none))
+      (pick (scheduledNow now) (at startScheduled) (pick (silence && silentNow now) (at startSilence) none))
       none
 
   -- what a scheduled start waits for

@@ -155,8 +155,7 @@ fn scheduled(mem: Memory, cfg: Config, started: u64, sent: u64, now: u64) -> boo
     false
 }
 
-// Why an own rekey starts at `now`, where nothing else stands against one: 0 is Scheduled, 1 is
-// Silence.
+// Why an own rekey starts at `now`, where nothing else stands against one: a number of `numbers::start`.
 pub fn start_kind(
     mem: Memory,
     cfg: Config,
@@ -172,11 +171,17 @@ pub fn start_kind(
             return When::NONE;
         }
         if scheduled(mem, cfg, started, sent, now) {
-            return When { some: true, at: 0 };
+            return When {
+                some: true,
+                at: numbers::start::SCHEDULED,
+            };
         }
         if silence {
             if silent(mem, cfg, started, sent, now) {
-                return When { some: true, at: 1 };
+                return When {
+                    some: true,
+                    at: numbers::start::SILENCE,
+                };
             }
         }
     }
@@ -235,13 +240,13 @@ pub fn start_at(mem: Memory, cfg: Config, started: u64, sent: u64, silence: bool
 pub fn idle(kind: u8) -> bool
     ensures { λ r. ⌜ r ≡ isIdle kind ⌝ }
 {
-    if kind == 1 {
+    if kind == numbers::cycle::INIT {
         return false;
     }
-    if kind == 2 {
+    if kind == numbers::cycle::PENDI {
         return false;
     }
-    if kind == 3 {
+    if kind == numbers::cycle::PENDR {
         return false;
     }
     true
@@ -263,7 +268,7 @@ fn may_start(s: State) -> bool
     false
 }
 
-// Whether an own rekey starts at `now`, and why: 0 is Scheduled, 1 is Silence.
+// Whether an own rekey starts at `now`, and why.
 pub fn kind(s: State, cfg: Config, p: Profile, now: u64) -> When
     ensures { λ r. ⌜ r ≡ startKind s cfg p now ⌝ }
 {

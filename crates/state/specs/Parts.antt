@@ -1,7 +1,6 @@
 -- The parts of a state: what is held in it, and a part put in place of another.
-use Prim.Native.Nat.{ℕ}
-use mathlib.Core.Bool.{Bool, true, false}
-use mathlib.Core.List.{List, [], _∷_, _++_, map}
+use mathlib.Core.Bool.{Bool}
+use mathlib.Core.List.{List, [], _∷_, _++_}
 use Rattle.time.specs.Pick.{pick}
 use Rattle.ladder.specs.declared.Ladder.{Ladder}
 use Rattle.epoch.specs.declared.Epoch.{Epoch}

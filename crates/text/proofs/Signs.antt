@@ -1,17 +1,16 @@
 -- A number and its sign, as the machine has them. Assumes nothing.
 use Prim.Native.Nat.{ℕ, zero, suc, _≤_, _<_}
 use mathlib.Core.Bool.{Bool, true, false, cond}
-use mathlib.Core.Path.{_≡_, refl, sym, _∙_, subst}
+use mathlib.Core.Path.{_≡_, refl, sym, subst}
 use mathlib.Core.List.{List, [], _∷_}
 use native.Mathlib.Omega.{arith}
-use native.Mathlib.Nat.{le-refl}
-use lib.ListN.{length, getD}
+use lib.ListN.{length}
 use lib.Dec.{T, leb, eqb}
-use lib.IntN.{ℤ, pos, negℤ, _-ℤ_, +ℤ-idl}
+use lib.IntN.{pos, negℤ, _-ℤ_, +ℤ-idl}
 use borrow.Author.Tests.{leb-true}
 use mir.Syntax.{w32, w64}
 use mir.Val.{SFits}
-use Rattle.text.specs.Numbers.{numberOf, allDigits, value, atMost, wrong, empty, notDigit, tooLarge}
+use Rattle.text.specs.Numbers.{numberOf, allDigits, value, wrong, empty, notDigit, tooLarge}
 use Rattle.text.specs.Signs.{isMinus}
 
 pub below-fits : (n : ℕ) → n ≤ 2147483648 → SFits w64 (pos 0 -ℤ pos n) × SFits w32 (pos 0 -ℤ pos n)

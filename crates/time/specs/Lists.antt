@@ -1,13 +1,13 @@
 -- Lists made from a rule, and the laws that counting loops want.
-use Prim.Native.Nat.{ℕ, zero, suc, _≤_, _<_, _+_, _-_, min}
-use mathlib.Core.Bool.{Bool, true, false, not}
+use Prim.Native.Nat.{ℕ, zero, suc, _≤_, _<_, _+_, _-_}
+use mathlib.Core.Bool.{Bool, true, false}
 use mathlib.Core.Path.{_≡_, refl, sym, _∙_, ap, ap₂}
 use native.Mathlib.Nat.{add-zero, sub-zero, zero-sub}
 use mathlib.Core.List.{List, [], _∷_, _++_, map}
 use native.Mathlib.Numerals.{add-one}
 use native.Mathlib.Omega.{arith}
 use lib.ListN.{length, getD, take, drop, drop-of-length-le, length-take, length-map}
-use lib.Seq.{slice, slice-cons, slice-empty}
+use lib.Seq.{slice, slice-cons}
 use Rattle.time.specs.Pick.{pick}
 
 -- each element in turn put into b

@@ -1,6 +1,5 @@
 -- A choice by a test, and the rules that proofs close such choices with.
-use Prim.Native.Nat.{ℕ, _≤_, _<_}
-use mathlib.Core.Bool.{Bool, true, false}
+use mathlib.Core.Bool.{Bool, true, false, false≢true}
 use mathlib.Core.Path.{_≡_, refl, sym, _∙_}
 use borrow.Author.Tests.{le-leb, lt-leb, lt-ltb, le-ltb, eq-eqb, ne-eqb}
 
@@ -8,6 +7,18 @@ use borrow.Author.Tests.{le-leb, lt-leb, lt-ltb, le-ltb, eq-eqb, ne-eqb}
 abbrev pub pick : {A : Type 0} → Bool → A → A → A
 pick true a b = a
 pick false a b = b
+
+-- both, in order
+abbrev pub and : Bool → Bool → Bool
+and a b = pick a b false
+
+pub and-left : (a b : Bool) → and a b ≡ true → a ≡ true
+and-left true b e = refl
+and-left false b e = e
+
+pub and-right : (a b : Bool) → and a b ≡ true → b ≡ true
+and-right true b e = e
+and-right false b e = absurd (false≢true e)
 
 pub pick-then : {A : Type 0} (t : Bool) (v a b : A) → t ≡ true → v ≡ a → v ≡ pick t a b
 pick-then t v a b e p = p ∙ rw e

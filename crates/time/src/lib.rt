@@ -2,8 +2,10 @@
 //
 // Ported from core/src/time/mod.rs (`backoff`), ladder.rs (`later`) and machine.rs (`since`).
 ghost use mathlib.Core.Path.{_≡_};
-ghost use Prim.Native.Nat.{_-_};
-ghost use Rattle.time.specs.Time.{laterOf, sumOf, laterByOf, satAdd, satMul, factorOf, backoffOf, least, most, reachedOf, soonerOf};
+ghost use mathlib.Core.Bool.{Bool};
+ghost use Prim.Native.Nat.{_+_, _-_};
+ghost use Rattle.time.specs.Pick.{pick, and as andOf};
+ghost use Rattle.time.specs.Time.{laterOf, sumOf, laterByOf, satAdd, satMul, factorOf, backoffOf, least, most, reachedOf, soonerOf, whenever as wheneverOf};
 
 // A number that may be absent: an instant, a duration or a number of the caller.
 #[repr(C)]
@@ -109,6 +111,37 @@ pub fn later_by(t: u64, d: When) -> u64
     ensures { λ r. ⌜ r ≡ laterByOf t d ⌝ }
 {
     if d.some { later(t, d.at) } else { t }
+}
+
+// Both, in order.
+pub fn and(a: bool, b: bool) -> bool
+    ensures { λ r. ⌜ r ≡ andOf a b ⌝ }
+{
+    if a { b } else { false }
+}
+
+// One or the other.
+pub fn either(a: bool, b: bool) -> bool
+    ensures { λ r. ⌜ r ≡ pick a Bool.true b ⌝ }
+{
+    if a { true } else { b }
+}
+
+// One more, at most 255.
+pub fn one_more(n: u8) -> u8
+    ensures { λ r. ⌜ r ≡ least (n + 1) 255 ⌝ }
+{
+    if n < 255 { n + 1 } else { 255 }
+}
+
+// A number that is there where a flag is on.
+pub fn whenever(some: bool, n: u64) -> When
+    ensures { λ r. ⌜ r ≡ wheneverOf some n ⌝ }
+{
+    if some {
+        return When { some: true, at: n };
+    }
+    When::NONE
 }
 
 impl When {

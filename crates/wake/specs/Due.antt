@@ -7,6 +7,7 @@ use Rattle.time.specs.Pick.{pick}
 use Rattle.time.specs.Lists.{kept}
 use Rattle.ladder.specs.declared.Ladder.{Ladder}
 use Rattle.ladder.specs.Ladder.{nextAtOf}
+use Rattle.numbers.specs.Numbers.{itemDrain, itemCandidate, itemUnadopted, itemHeld, itemProbe, itemDelayed, itemFin, itemElicit, itemConfirm, itemDelayEnd, itemResend, itemExpire}
 use Rattle.epoch.specs.declared.Final.{Final}
 use Rattle.epoch.specs.declared.MayLadder.{MayLadder}
 use Rattle.epoch.specs.declared.MayEpoch.{MayEpoch}
@@ -18,7 +19,6 @@ use Rattle.state.specs.Parts.{listed}
 use Rattle.state.specs.declared.State.{State}
 use Rattle.start.specs.Start.{instants}
 use Rattle.items.specs.Items.{Item, item}
-use Rattle.wake.specs.Kinds.{dueDrain, dueCandidate, dueUnadopted, dueHeld, dueProbe, dueDelayed, dueFin, dueElicit, dueConfirm, dueDelayEnd, dueResend, dueExpire}
 
 -- ---- the instants of ladders
 
@@ -44,31 +44,31 @@ itemsAt kind key ts = map (λ t. item t kind key) ts
 
 -- the drained epoch's end
 unfoldable pub drainItems : State → List Item
-drainItems s = itemsAt dueDrain (s .drain .ep .tag) (listed (s .drain .some) (s .drain .deadline))
+drainItems s = itemsAt itemDrain (s .drain .ep .tag) (listed (s .drain .some) (s .drain .deadline))
 
 -- each candidate's
 unfoldable pub candidateItems : State → List Item
-candidateItems s = map (λ c. item (c .deadline) dueCandidate (c .seq)) (heldBy (s .cands))
+candidateItems s = map (λ c. item (c .deadline) itemCandidate (c .seq)) (heldBy (s .cands))
 
 -- those of an own completed attempt, by its wait
 unfoldable pub pendingItems : PendI → List Item
 pendingItems p =
-    pick (waitsHeld (p .wait)) (itemsAt dueHeld (p .ep .tag) (p .deadline ∷ []))
-    (pick (waitsEvidence (p .wait)) (itemsAt dueProbe (p .ep .tag) (mayInstants (p .probes)) ++ itemsAt dueConfirm (p .ep .tag) (p .deadline ∷ []))
-    (itemsAt dueDelayed (p .ep .tag) (finInstants (p .fin)) ++ itemsAt dueDelayEnd (p .ep .tag) (p .deadline ∷ [])))
+    pick (waitsHeld (p .wait)) (itemsAt itemHeld (p .ep .tag) (p .deadline ∷ []))
+    (pick (waitsEvidence (p .wait)) (itemsAt itemProbe (p .ep .tag) (mayInstants (p .probes)) ++ itemsAt itemConfirm (p .ep .tag) (p .deadline ∷ []))
+    (itemsAt itemDelayed (p .ep .tag) (finInstants (p .fin)) ++ itemsAt itemDelayEnd (p .ep .tag) (p .deadline ∷ [])))
 
 -- those of the cycle
 unfoldable pub cycleItems : Cycle → List Item
 cycleItems c =
-    pick (isInit (c .kind)) (itemsAt dueResend 0 (ladderInstants (c .init .ladder)) ++ itemsAt dueExpire 0 (c .init .deadline ∷ []))
+    pick (isInit (c .kind)) (itemsAt itemResend 0 (ladderInstants (c .init .ladder)) ++ itemsAt itemExpire 0 (c .init .deadline ∷ []))
     (pick (isPendI (c .kind)) (pendingItems (c .pendi))
-    (pick (isPendR (c .kind)) (itemsAt dueUnadopted (c .pendr .ep .tag) (c .pendr .deadline ∷ [])) []))
+    (pick (isPendR (c .kind)) (itemsAt itemUnadopted (c .pendr .ep .tag) (c .pendr .deadline ∷ [])) []))
 
 -- those of the current epoch
 unfoldable pub currentItems : MayEpoch → List Item
 currentItems e =
     pick (e .some)
-    (itemsAt dueFin (e .ep .tag) (finInstants (e .ep .fin)) ++ itemsAt dueElicit (e .ep .tag) (elicitInstants (e .ep .moved .some) (e .ep .elicit)))
+    (itemsAt itemFin (e .ep .tag) (finInstants (e .ep .fin)) ++ itemsAt itemElicit (e .ep .tag) (elicitInstants (e .ep .moved .some) (e .ep .elicit)))
     []
 
 -- every item that `due` names, in its order, whether its instant is reached or not

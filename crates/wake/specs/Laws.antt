@@ -11,6 +11,7 @@ use Rattle.time.specs.Pick.{pick}
 use Rattle.time.specs.Lists.{kept, fold}
 use Rattle.time.specs.Time.{at, reachedOf}
 use Rattle.settings.specs.declared.Config.{Config}
+use Rattle.numbers.specs.Numbers.{itemDrain, itemCandidate, itemUnadopted, itemHeld, itemProbe, itemDelayed, itemFin, itemElicit, itemConfirm, itemDelayEnd, itemResend, itemExpire}
 use Rattle.epoch.specs.declared.Final.{Final}
 use Rattle.epoch.specs.declared.MayLadder.{MayLadder}
 use Rattle.epoch.specs.declared.MayEpoch.{MayEpoch}
@@ -25,7 +26,6 @@ use Rattle.state.specs.declared.Profile.{Profile}
 use Rattle.start.specs.Start.{instants, startAt, calledFor}
 use Rattle.start.specs.Laws.{Begun, called-by}
 use Rattle.items.specs.Items.{Item, item}
-use Rattle.wake.specs.Kinds.{dueDrain, dueCandidate, dueUnadopted, dueHeld, dueProbe, dueDelayed, dueFin, dueElicit, dueConfirm, dueDelayEnd, dueResend, dueExpire}
 use Rattle.wake.specs.Due.{ladderInstants, mayInstants, finInstants, elicitInstants, itemsAt, drainItems, candidateItems, pendingItems, cycleItems, currentItems, named, isDue, dueItems, someIn, anyDue, pendingDue, cycleDue, currentInstants, standing, dueInstants}
 use Rattle.wake.specs.Wake.{exhausted, cycleInstants, storedInstants, wakeInstants, wakeOf}
 use Rattle.wake.specs.Quiet.{openingIdle, teardownStands, offerOwed, quietOf, heldSomething, Led}
@@ -72,11 +72,11 @@ instants-pending p = under (waitsHeld (p .wait)) (waitsEvidence (p .wait))
 
     under :
         (h e : Bool)
-        → instantsOf (pick h (itemsAt dueHeld tag ends) (pick e (itemsAt dueProbe tag (mayInstants (p .probes)) ++ itemsAt dueConfirm tag ends) (itemsAt dueDelayed tag (finInstants (p .fin)) ++ itemsAt dueDelayEnd tag ends)))
+        → instantsOf (pick h (itemsAt itemHeld tag ends) (pick e (itemsAt itemProbe tag (mayInstants (p .probes)) ++ itemsAt itemConfirm tag ends) (itemsAt itemDelayed tag (finInstants (p .fin)) ++ itemsAt itemDelayEnd tag ends)))
         ≡ pick h ends (pick e (mayInstants (p .probes) ++ ends) (finInstants (p .fin) ++ ends))
     under true e = refl
-    under false true = two-kinds dueProbe tag dueConfirm tag (mayInstants (p .probes)) ends
-    under false false = two-kinds dueDelayed tag dueDelayEnd tag (finInstants (p .fin)) ends
+    under false true = two-kinds itemProbe tag itemConfirm tag (mayInstants (p .probes)) ends
+    under false false = two-kinds itemDelayed tag itemDelayEnd tag (finInstants (p .fin)) ends
 
 instants-cycle : (c : Cycle) → instantsOf (cycleItems c) ≡ cycleDue c
 unfolding cycleItems cycleDue
@@ -90,16 +90,16 @@ instants-cycle c = under (isInit (c .kind)) (isPendI (c .kind)) (isPendR (c .kin
 
     under :
         (i p r : Bool)
-        → instantsOf (pick i (itemsAt dueResend 0 first ++ itemsAt dueExpire 0 ends) (pick p (pendingItems (c .pendi)) (pick r (itemsAt dueUnadopted (c .pendr .ep .tag) (c .pendr .deadline ∷ [])) [])))
+        → instantsOf (pick i (itemsAt itemResend 0 first ++ itemsAt itemExpire 0 ends) (pick p (pendingItems (c .pendi)) (pick r (itemsAt itemUnadopted (c .pendr .ep .tag) (c .pendr .deadline ∷ [])) [])))
         ≡ pick i (first ++ ends) (pick p (pendingDue (c .pendi .wait) (c .pendi .deadline) (c .pendi .probes) (c .pendi .fin)) (pick r (c .pendr .deadline ∷ []) []))
-    under true p r = two-kinds dueResend 0 dueExpire 0 first ends
+    under true p r = two-kinds itemResend 0 itemExpire 0 first ends
     under false true r = instants-pending (c .pendi)
     under false false true = refl
     under false false false = refl
 
 instants-candidates : (s : State) → instantsOf (candidateItems s) ≡ firsts (s .cands .len) (s .cands .deadline)
 unfolding candidateItems
-instants-candidates s = map-map (λ i. i .at) (λ c. item (c .deadline) dueCandidate (c .seq)) (heldBy (s .cands)) ∙ deadlines-held (s .cands)
+instants-candidates s = map-map (λ i. i .at) (λ c. item (c .deadline) itemCandidate (c .seq)) (heldBy (s .cands)) ∙ deadlines-held (s .cands)
 
 instants-current : (e : MayEpoch) → instantsOf (currentItems e) ≡ currentInstants e
 unfolding currentItems currentInstants
@@ -111,15 +111,15 @@ instants-current e = under (e .some)
     elicit : List ℕ
     elicit = elicitInstants (e .ep .moved .some) (e .ep .elicit)
 
-    under : (q : Bool) → instantsOf (pick q (itemsAt dueFin (e .ep .tag) fin ++ itemsAt dueElicit (e .ep .tag) elicit) []) ≡ pick q (fin ++ elicit) []
-    under true = two-kinds dueFin (e .ep .tag) dueElicit (e .ep .tag) fin elicit
+    under : (q : Bool) → instantsOf (pick q (itemsAt itemFin (e .ep .tag) fin ++ itemsAt itemElicit (e .ep .tag) elicit) []) ≡ pick q (fin ++ elicit) []
+    under true = two-kinds itemFin (e .ep .tag) itemElicit (e .ep .tag) fin elicit
     under false = refl
 
 pub instants-named : (s : State) → instantsOf (named s) ≡ dueInstants s
 unfolding named standing dueInstants drainItems
 instants-named s =
     instants-append (drainItems s) (candidateItems s ++ (cycleItems (s .cycle) ++ currentItems (s .cur)))
-    ∙ ap₂ _++_ (instants-at dueDrain (s .drain .ep .tag) (listed (s .drain .some) (s .drain .deadline)))
+    ∙ ap₂ _++_ (instants-at itemDrain (s .drain .ep .tag) (listed (s .drain .some) (s .drain .deadline)))
     (instants-append (candidateItems s) (cycleItems (s .cycle) ++ currentItems (s .cur))
     ∙ ap₂ _++_ (instants-candidates s)
     (instants-append (cycleItems (s .cycle)) (currentItems (s .cur))

@@ -1,4 +1,3 @@
-pub mod Kinds
 pub mod Due
 pub mod Wake
 pub mod Quiet

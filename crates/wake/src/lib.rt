@@ -2,14 +2,14 @@
 // teardown tests of `poll`).
 ghost use mathlib.Core.Path.{_≡_};
 ghost use mathlib.Core.Bool.{not, _&&_};
-ghost use mathlib.Core.List.{List, [], _∷_, _++_};
+ghost use mathlib.Core.List.{[], _∷_, _++_};
 ghost use Rattle.time.specs.Pick.{pick};
-ghost use Rattle.time.specs.Time.{none, at as atOf, soonerOf};
+ghost use Rattle.time.specs.Time.{at as atOf, soonerOf};
 ghost use Rattle.candidates.specs.Held.{earliestOf};
 ghost use Rattle.state.specs.Parts.{listed};
 ghost use Rattle.wake.specs.Due.{ladderInstants, mayInstants, finInstants, elicitInstants, pendingDue, cycleDue, dueInstants, anyDue};
 ghost use Rattle.wake.specs.Wake.{exhausted as exhaustedOf, cycleInstants, storedInstants, wakeOf};
-ghost use Rattle.wake.specs.Quiet.{openingIdle, teardownStands, offerable, offerOwed, quietOf};
+ghost use Rattle.wake.specs.Quiet.{openingIdle, teardownStands, offerOwed, quietOf};
 use cycle::Cycle;
 use epoch::Final;
 use epoch::MayLadder;
@@ -85,13 +85,13 @@ fn pending_next(deadline: u64, probes: MayLadder, fin: Final) -> When
 fn pending_due(wait: u8, deadline: u64, probes: MayLadder, fin: Final) -> When
     ensures { λ r. ⌜ r ≡ earliestOf (pendingDue wait deadline probes fin) ⌝ }
 {
-    if wait == 0 {
+    if wait == numbers::wait::HELD {
         return When {
             some: true,
             at: deadline,
         };
     }
-    if wait == 1 {
+    if wait == numbers::wait::EVIDENCE {
         return by(may_next(probes), deadline);
     }
     by(fin_next(fin), deadline)
@@ -101,32 +101,32 @@ fn pending_due(wait: u8, deadline: u64, probes: MayLadder, fin: Final) -> When
 fn cycle_next(c: Cycle) -> When
     ensures { λ r. ⌜ r ≡ earliestOf (cycleInstants c) ⌝ }
 {
-    if c.kind == 1 {
+    if c.kind == numbers::cycle::INIT {
         let l = c.init.ladder;
         return by(ladder_next(l), c.init.deadline);
     }
-    if c.kind == 2 {
+    if c.kind == numbers::cycle::PENDI {
         let probes = c.pendi.probes;
         let fin = c.pendi.fin;
         return pending_next(c.pendi.deadline, probes, fin);
     }
-    given(c.kind == 3, c.pendr.deadline)
+    given(c.kind == numbers::cycle::PENDR, c.pendr.deadline)
 }
 
 // The least instant of the cycle's items.
 fn cycle_due(c: Cycle) -> When
     ensures { λ r. ⌜ r ≡ earliestOf (cycleDue c) ⌝ }
 {
-    if c.kind == 1 {
+    if c.kind == numbers::cycle::INIT {
         let l = c.init.ladder;
         return by(ladder_next(l), c.init.deadline);
     }
-    if c.kind == 2 {
+    if c.kind == numbers::cycle::PENDI {
         let probes = c.pendi.probes;
         let fin = c.pendi.fin;
         return pending_due(c.pendi.wait, c.pendi.deadline, probes, fin);
     }
-    given(c.kind == 3, c.pendr.deadline)
+    given(c.kind == numbers::cycle::PENDR, c.pendr.deadline)
 }
 
 // The ladders of the current epoch: its final message's, and its prompt repeats' until the peer is

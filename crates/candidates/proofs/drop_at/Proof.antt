@@ -53,17 +53,4 @@ returns c = sym (c .before .loop .inv .2 ∙ shifting-done _ _ _ (c .loop-test .
 pub drop-at-spec : {M : Type 1} → statement M
 drop-at-spec =
     tie.close
-    (tie.spec
-    Inv-loop
-    μ-loop
-    loop-holds
-    add-loop
-    add-a
-    mul-a
-    element-copy-out-a
-    mul-a-2
-    element-write-a
-    add-j
-    loop-less
-    loop-again
-    returns)
+    (tie.spec Inv-loop μ-loop loop-holds add-loop add-a mul-a element-copy-out-a mul-a-2 element-write-a add-j loop-less loop-again returns)

@@ -94,16 +94,5 @@ returns c =
 pub dropped-spec : {M : Type 1} → statement M
 dropped-spec =
     tie.close
-    (tie.spec
-    drop-at-requires
-    drop-at-requires-2
-    drop-at-requires-3
-    drop-at-requires-4
-    drop-at-requires-5
-    drop-at-requires-6
-    drop-at-requires-7
-    drop-at-requires-8
-    drop-at-requires-9
-    drop-at-requires-10
-    sub-v
-    returns)
+    (tie.spec drop-at-requires drop-at-requires-2 drop-at-requires-3 drop-at-requires-4 drop-at-requires-5 drop-at-requires-6 drop-at-requires-7
+    drop-at-requires-8 drop-at-requires-9 drop-at-requires-10 sub-v returns)

@@ -51,15 +51,4 @@ returns c =
 pub earliest-spec : {M : Type 1} → statement M
 earliest-spec =
     tie.close
-    (tie.spec
-    Inv-loop
-    μ-loop
-    held-requires
-    loop-holds
-    mul-t8
-    element-copy-out-t11
-    sooner-requires
-    add-i
-    loop-less
-    loop-again
-    returns)
+    (tie.spec Inv-loop μ-loop held-requires loop-holds mul-t8 element-copy-out-t11 sooner-requires add-i loop-less loop-again returns)

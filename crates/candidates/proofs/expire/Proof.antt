@@ -9,9 +9,6 @@ use Rattle.candidates.specs.Laws.{held-most, removed-here, expired-here,
 use Rattle.candidates.proofs.expire.Statement.{statement}
 use Rattle.candidates.proofs.expire.Tie as tie
 
-held-requires : tie.Need-held-requires
-held-requires c κs = search needs
-
 find-requires : tie.Need-find-requires
 find-requires c κs = (search needs, rw (c .before .before .held .ensures) (held-most _ .1))
 
@@ -61,11 +58,4 @@ returns-3 c =
 pub expire-spec : {M : Type 1} → statement M
 expire-spec =
     tie.close
-    (tie.spec
-    held-requires
-    find-requires
-    returns
-    read-requires
-    returns-2
-    dropped-requires
-    returns-3)
+    (tie.spec (λ c κs. search needs) find-requires returns read-requires returns-2 dropped-requires returns-3)

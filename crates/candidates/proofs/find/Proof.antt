@@ -41,14 +41,4 @@ returns-2 c = sym (c .before .loop .inv .1 ∙ (place-none _ _ _ _ (c .loop-test
 pub find-spec : {M : Type 1} → statement M
 find-spec =
     tie.close
-    (tie.spec
-    Inv-loop
-    μ-loop
-    loop-holds
-    mul-if1
-    element-copy-out-if1
-    returns
-    add-j
-    loop-less
-    loop-again
-    returns-2)
+    (tie.spec Inv-loop μ-loop loop-holds mul-if1 element-copy-out-if1 returns add-j loop-less loop-again returns-2)

@@ -7,9 +7,6 @@ use Rattle.candidates.specs.Laws.{held-most, expired-here, expired-none}
 use Rattle.candidates.proofs.is_expired.Statement.{statement}
 use Rattle.candidates.proofs.is_expired.Tie as tie
 
-held-requires : tie.Need-held-requires
-held-requires c κs = search needs
-
 find-requires : tie.Need-find-requires
 find-requires c κs = (search needs, rw (c .before .before .held .ensures) (held-most _ .1))
 
@@ -34,4 +31,4 @@ returns-2 c =
     sym (expired-none (a .v) (a .seq) _ _ (h .held .ensures) (c .before .find .ensures) (a .now) (c .if1 .left))
 
 pub is-expired-spec : {M : Type 1} → statement M
-is-expired-spec = tie.close (tie.spec held-requires find-requires read-requires returns returns-2)
+is-expired-spec = tie.close (tie.spec (λ c κs. search needs) find-requires read-requires returns returns-2)

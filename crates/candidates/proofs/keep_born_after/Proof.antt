@@ -7,9 +7,6 @@ use Rattle.candidates.specs.Laws.{held-most, held-kept}
 use Rattle.candidates.proofs.keep_born_after.Statement.{statement}
 use Rattle.candidates.proofs.keep_born_after.Tie as tie
 
-held-requires : tie.Need-held-requires
-held-requires c κs = search needs
-
 pack-requires : tie.Need-pack-requires
 pack-requires c κs =
     let h = c .before .before .before in
@@ -98,16 +95,5 @@ returns c =
 pub keep-born-after-spec : {M : Type 1} → statement M
 keep-born-after-spec =
     tie.close
-    (tie.spec
-    held-requires
-    pack-requires
-    pack-requires-2
-    pack-requires-3
-    pack-requires-4
-    pack-requires-5
-    pack-requires-6
-    pack-requires-7
-    pack-requires-8
-    pack-requires-9
-    pack-requires-10
-    returns)
+    (tie.spec (λ c κs. search needs) pack-requires pack-requires-2 pack-requires-3 pack-requires-4 pack-requires-5 pack-requires-6 pack-requires-7
+    pack-requires-8 pack-requires-9 pack-requires-10 returns)

@@ -83,18 +83,5 @@ returns c =
 pub pack-spec : {M : Type 1} → statement M
 pack-spec =
     tie.close
-    (tie.spec
-    Inv-loop
-    μ-loop
-    loop-holds
-    mul-if1
-    element-copy-out-if1
-    mul-a
-    element-copy-out-a
-    mul-a-2
-    element-write-a
-    add-w
-    add-i
-    loop-less
-    loop-again
-    returns)
+    (tie.spec Inv-loop μ-loop loop-holds mul-if1 element-copy-out-if1 mul-a element-copy-out-a mul-a-2 element-write-a add-w add-i loop-less
+    loop-again returns)

@@ -47,16 +47,4 @@ returns-2 c = sym (c .before .loop .inv ∙ pair-none _ _ _ (c .loop-test .left)
 pub pairs-spec : {M : Type 1} → statement M
 pairs-spec =
     tie.close
-    (tie.spec
-    Inv-loop
-    μ-loop
-    loop-holds
-    add-find
-    mul-find
-    element-copy-out-find
-    find-requires
-    returns
-    add-i
-    loop-less
-    loop-again
-    returns-2)
+    (tie.spec Inv-loop μ-loop loop-holds add-find mul-find element-copy-out-find find-requires returns add-i loop-less loop-again returns-2)

@@ -5,9 +5,6 @@ use Rattle.candidates.specs.Laws.{held-most, held-removed, removed-here,
 use Rattle.candidates.proofs.remove.Statement.{statement}
 use Rattle.candidates.proofs.remove.Tie as tie
 
-held-requires : tie.Need-held-requires
-held-requires c κs = search needs
-
 find-requires : tie.Need-find-requires
 find-requires c κs = (search needs, rw (c .before .before .held .ensures) (held-most _ .1))
 
@@ -29,4 +26,4 @@ returns-2 c =
     (e, ap heldBy e ∙ held-removed (a .v) (a .seq))
 
 pub remove-spec : {M : Type 1} → statement M
-remove-spec = tie.close (tie.spec held-requires find-requires dropped-requires returns returns-2)
+remove-spec = tie.close (tie.spec (λ c κs. search needs) find-requires dropped-requires returns returns-2)

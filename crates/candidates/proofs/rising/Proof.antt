@@ -44,15 +44,4 @@ returns-2 c = sym (c .before .loop .inv ∙ rising-end _ _ _ _ (c .loop-test .le
 pub rising-spec : {M : Type 1} → statement M
 rising-spec =
     tie.close
-    (tie.spec
-    Inv-loop
-    μ-loop
-    element-copy-out-last
-    loop-holds
-    mul-x
-    element-copy-out-x
-    returns
-    add-i
-    loop-less
-    loop-again
-    returns-2)
+    (tie.spec Inv-loop μ-loop element-copy-out-last loop-holds mul-x element-copy-out-x returns add-i loop-less loop-again returns-2)

@@ -1,16 +1,12 @@
 use Rattle.cutover.specs.Cutover.{heardNow}
-use borrow.Author.Tests.{le-leb, lt-leb, lt-ltb, le-ltb, eq-eqb, ne-eqb}
+use borrow.Author.Tests.{eq-eqb, ne-eqb}
 use Rattle.cutover.proofs.heard_now.Statement.{statement}
 use Rattle.cutover.proofs.heard_now.Tie as tie
-use Rattle.cutover.proofs.heard_now.Reads as reads
-use Rattle.cutover.proofs.heard_now.Lts as lts
 
--- src/lib.rt:140:1
 returns : tie.Need-returns
 unfolding heardNow
 returns c = simp (eq-eqb _ _ (c .if1 .taken))
 
--- src/lib.rt:140:1
 returns-2 : tie.Need-returns-2
 unfolding heardNow
 returns-2 c = simp (ne-eqb _ _ (c .if1 .left))

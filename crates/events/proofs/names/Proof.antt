@@ -5,8 +5,5 @@ use Rattle.events.proofs.names.Tie as tie
 returns : tie.Need-returns
 returns c = simp (c .if1 .taken)
 
-returns-2 : tie.Need-returns-2
-returns-2 c = search needs
-
 pub names-spec : {M : Type 1} → statement M
-names-spec = tie.close (tie.spec returns returns-2)
+names-spec = tie.close (tie.spec returns (λ c. search needs))

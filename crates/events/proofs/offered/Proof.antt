@@ -2,8 +2,9 @@ use Prim.Native.Nat.{_≤_, _-_}
 use mathlib.Core.Path.{_≡_, refl, sym, _∙_}
 use native.Mathlib.Omega.{arith}
 use borrow.Author.Needs.{needs}
-use Rattle.events.specs.Held.{taken-most}
-use Rattle.events.specs.Queries.{wordsOffer, anyFrom, any-found, any-next, any-end, any-all}
+use Rattle.events.specs.Laws.{taken-most}
+use Rattle.events.specs.Queries.{wordsOffer, anyFrom}
+use Rattle.events.specs.Laws.{any-found, any-next, any-end, any-all}
 use Rattle.events.proofs.offered.Statement.{statement}
 use Rattle.events.proofs.offered.Tie as tie
 
@@ -51,15 +52,4 @@ returns-2 c =
 pub offered-spec : {M : Type 1} → statement M
 offered-spec =
     tie.close
-    (tie.spec
-    Inv-loop
-    μ-loop
-    taken-requires
-    loop-holds
-    place-requires
-    offers-requires
-    returns
-    add-i
-    loop-less
-    loop-again
-    returns-2)
+    (tie.spec Inv-loop μ-loop taken-requires loop-holds place-requires offers-requires returns add-i loop-less loop-again returns-2)

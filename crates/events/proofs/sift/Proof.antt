@@ -1,17 +1,8 @@
 use mathlib.Core.Path.{sym, _∙_}
-use Rattle.events.specs.Withdraw.{sifted-moves, sifted-drops}
+use Rattle.events.specs.Laws.{sifted-moves, sifted-drops}
 use borrow.Author.Needs.{needs}
 use Rattle.events.proofs.sift.Statement.{statement}
 use Rattle.events.proofs.sift.Tie as tie
-
-place-requires : tie.Need-place-requires
-place-requires c κs = search needs
-
-stays-requires : tie.Need-stays-requires
-stays-requires c κs = search needs
-
-push-requires : tie.Need-push-requires
-push-requires c κs = search needs
 
 returns : tie.Need-returns
 returns c =
@@ -22,4 +13,4 @@ returns-2 : tie.Need-returns-2
 returns-2 c = sifted-drops _ _ _ _ _ (c .before .before .place .ensures) (sym (c .before .stays .ensures) ∙ c .if1 .left)
 
 pub sift-spec : {M : Type 1} → statement M
-sift-spec = tie.close (tie.spec place-requires stays-requires push-requires returns returns-2)
+sift-spec = tie.close (tie.spec (λ c κs. search needs) (λ c κs. tt) (λ c κs. tt) returns returns-2)

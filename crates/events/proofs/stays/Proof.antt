@@ -1,11 +1,7 @@
 use Rattle.events.specs.Withdraw.{wordsStay}
 use borrow.Author.Tests.{eq-eqb, ne-eqb}
-use borrow.Author.Needs.{needs}
 use Rattle.events.proofs.stays.Statement.{statement}
 use Rattle.events.proofs.stays.Tie as tie
-
-sealable-requires : tie.Need-sealable-requires
-sealable-requires c κs = search needs
 
 returns : tie.Need-returns
 unfolding wordsStay
@@ -16,4 +12,4 @@ unfolding wordsStay
 returns-2 c = simp (ne-eqb _ _ (c .if1 .left))
 
 pub stays-spec : {M : Type 1} → statement M
-stays-spec = tie.close (tie.spec sealable-requires returns returns-2)
+stays-spec = tie.close (tie.spec (λ c κs. tt) returns returns-2)

@@ -3,9 +3,10 @@ use mathlib.Core.Path.{_≡_, refl, sym, _∙_, ap}
 use native.Mathlib.Omega.{arith}
 use borrow.Author.Needs.{needs}
 use Rattle.events.specs.Log.{at}
-use Rattle.events.specs.Held.{taken-most}
+use Rattle.events.specs.Laws.{taken-most}
 use Rattle.events.specs.Withdraw.{given, wordsStay}
-use Rattle.events.specs.Withdraw.{sifting, sifting-next, sifting-end, sifting-all}
+use Rattle.events.specs.Withdraw.{sifting}
+use Rattle.events.specs.Laws.{sifting-next, sifting-end, sifting-all}
 use Rattle.events.proofs.withdraw.Statement.{statement}
 use Rattle.events.proofs.withdraw.Tie as tie
 
@@ -43,13 +44,4 @@ returns c =
 pub withdraw-spec : {M : Type 1} → statement M
 withdraw-spec =
     tie.close
-    (tie.spec
-    Inv-loop
-    μ-loop
-    taken-requires
-    loop-holds
-    sift-requires
-    add-i
-    loop-less
-    loop-again
-    returns)
+    (tie.spec Inv-loop μ-loop taken-requires loop-holds sift-requires add-i loop-less loop-again returns)

@@ -4,18 +4,6 @@ use borrow.Author.Needs.{needs}
 use Rattle.events.proofs.word.Statement.{statement}
 use Rattle.events.proofs.word.Tie as tie
 
-mul-result : tie.Need-mul-result
-mul-result c = search needs
-
-add-result : tie.Need-add-result
-add-result c = search needs
-
-mul-result-2 : tie.Need-mul-result-2
-mul-result-2 c = search needs
-
-element-copy-out-result : tie.Need-element-copy-out-result
-element-copy-out-result c = search needs
-
 returns : tie.Need-returns
 unfolding wordOf
 returns c = simp (lt-ltb _ _ (c .before .if2 .taken), lt-ltb _ _ (c .before .before .if1 .taken))
@@ -31,11 +19,4 @@ returns-3 c = simp (le-ltb _ _ (c .if1 .left))
 pub word-spec : {M : Type 1} → statement M
 word-spec =
     tie.close
-    (tie.spec
-    mul-result
-    add-result
-    mul-result-2
-    element-copy-out-result
-    returns
-    returns-2
-    returns-3)
+    (tie.spec (λ c. search needs) (λ c. search needs) (λ c. search needs) (λ c. search needs) returns returns-2 returns-3)

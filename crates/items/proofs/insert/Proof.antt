@@ -17,18 +17,6 @@ returns c =
       full = λ _. (refl, refl, refl);
     }
 
-words-requires : tie.Need-words-requires
-words-requires c κs = tt
-
-words-requires-2 : tie.Need-words-requires-2
-words-requires-2 c κs = tt
-
-words-requires-3 : tie.Need-words-requires-3
-words-requires-3 c κs = tt
-
-place-requires : tie.Need-place-requires
-place-requires c κs = search needs
-
 put-at-requires : tie.Need-put-at-requires
 put-at-requires c κs =
     let x = c .before .before .before .before .before .before in
@@ -50,9 +38,6 @@ put-at-requires-3 c κs =
     let a = k .before .before .before in
     (rw (c .before .before .before .before .before .place .ensures) (place-within _ _ _ _ _), a .before .before .if1 .left, x .words-arg6 .given .0)
 
-add-result : tie.Need-add-result
-add-result c = search needs
-
 returns-2 : tie.Need-returns-2
 returns-2 c =
     let place = c .before .before .before .before .before .before .place in
@@ -72,14 +57,5 @@ returns-2 c =
 pub insert-spec : {M : Type 1} → statement M
 insert-spec =
     tie.close
-    (tie.spec
-    returns
-    words-requires
-    words-requires-2
-    words-requires-3
-    place-requires
-    put-at-requires
-    put-at-requires-2
-    put-at-requires-3
-    add-result
-    returns-2)
+    (tie.spec returns (λ c κs. tt) (λ c κs. tt) (λ c κs. tt) (λ c κs. search needs) put-at-requires put-at-requires-2 put-at-requires-3
+    (λ c. search needs) returns-2)

@@ -2,7 +2,7 @@
 use Prim.Native.Nat.{_≤_, _-_}
 use mathlib.Core.Path.{_≡_, refl, sym, _∙_}
 use borrow.Author.Needs.{needs}
-use Rattle.time.specs.Time.{least-le}
+use Rattle.time.specs.Laws.{least-le}
 use Rattle.items.specs.Items.{item, listedIn}
 use Rattle.items.specs.Arrays.{listFrom, mostListed}
 use Rattle.items.specs.Laws.{listed-here, listed-on, listed-end}
@@ -59,18 +59,5 @@ returns-2 c =
 pub listed-spec : {M : Type 1} → statement M
 listed-spec =
     tie.close
-    (tie.spec
-    Inv-loop
-    μ-loop
-    bounded-requires
-    loop-holds
-    mul-is-named
-    element-copy-out-is-named
-    mul-is-named-2
-    element-copy-out-is-named-2
-    is-named-requires
-    returns
-    add-i
-    loop-less
-    loop-again
-    returns-2)
+    (tie.spec Inv-loop μ-loop bounded-requires loop-holds mul-is-named element-copy-out-is-named mul-is-named-2 element-copy-out-is-named-2
+    is-named-requires returns add-i loop-less loop-again returns-2)

@@ -15,27 +15,6 @@ returns c =
     let h : mostListed ≤ a .n = omega arith in
     record { count = rw (le-ltb (a .n) mostListed h); list = rw (le-ltb (a .n) mostListed h); full = λ _. (refl, refl) }
 
-words-requires : tie.Need-words-requires
-words-requires c κs = tt
-
-words-requires-2 : tie.Need-words-requires-2
-words-requires-2 c κs = tt
-
-add-next : tie.Need-add-next
-add-next c = search needs
-
-mul-kind : tie.Need-mul-kind
-mul-kind c = search needs
-
-element-write-kind : tie.Need-element-write-kind
-element-write-kind c = search needs
-
-mul-key : tie.Need-mul-key
-mul-key c = search needs
-
-element-write-key : tie.Need-element-write-key
-element-write-key c = search needs
-
 returns-2 : tie.Need-returns-2
 returns-2 c =
     let x = c .before in
@@ -52,4 +31,4 @@ returns-2 c =
 pub note-spec : {M : Type 1} → statement M
 note-spec =
     tie.close
-    (tie.spec returns words-requires words-requires-2 add-next mul-kind element-write-kind mul-key element-write-key returns-2)
+    (tie.spec returns (λ c κs. tt) (λ c κs. tt) (λ c. search needs) (λ c. search needs) (λ c. search needs) (λ c. search needs) (λ c. search needs) returns-2)

@@ -65,19 +65,5 @@ returns-2 c = sym (c .before .loop .inv .1 ∙ (put-end _ _ _ _ _ _ (c .loop-tes
 pub place-spec : {M : Type 1} → statement M
 place-spec =
     tie.close
-    (tie.spec
-    Inv-loop
-    μ-loop
-    loop-holds
-    mul-is-before
-    element-copy-out-is-before
-    mul-is-before-2
-    element-copy-out-is-before-2
-    mul-is-before-3
-    element-copy-out-is-before-3
-    is-before-requires
-    returns
-    add-i
-    loop-less
-    loop-again
-    returns-2)
+    (tie.spec Inv-loop μ-loop loop-holds mul-is-before element-copy-out-is-before mul-is-before-2 element-copy-out-is-before-2 mul-is-before-3
+    element-copy-out-is-before-3 is-before-requires returns add-i loop-less loop-again returns-2)

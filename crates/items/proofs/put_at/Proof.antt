@@ -59,18 +59,5 @@ returns c =
 pub put-at-spec : {M : Type 1} → statement M
 put-at-spec =
     tie.close
-    (tie.spec
-    Inv-loop
-    μ-loop
-    loop-holds
-    sub-a
-    mul-a
-    element-copy-out-a
-    mul-a-2
-    element-write-a
-    sub-j
-    loop-less
-    loop-again
-    mul-a-3
-    element-write-a-2
+    (tie.spec Inv-loop μ-loop loop-holds sub-a mul-a element-copy-out-a mul-a-2 element-write-a sub-j loop-less loop-again mul-a-3 element-write-a-2
     returns)

@@ -4,7 +4,8 @@ use Prim.Native.Nat.{ℕ, _+_, _-_, _*_, _^_, _%_, _≤_, _<_}
 use mathlib.Core.Path.{_≡_, sym, _∙_, ap}
 use native.Mathlib.Nat.{one-mul, mod-eq-of-lt, mul-le-mul}
 use lib.Pow.{pow-lt, pow-pos, pow-mono}
-use Rattle.time.specs.Time.{satMul, satMul-full}
+use Rattle.time.specs.Time.{satMul}
+use Rattle.time.specs.Laws.{satMul-full}
 use Rattle.ladder.specs.Schedule.{doubled}
 use Rattle.ladder.proofs.doubled.Statement.{statement}
 use Rattle.ladder.proofs.doubled.Tie as tie
@@ -13,22 +14,10 @@ use Rattle.ladder.proofs.doubled.Tie as tie
 shifted : (k : ℕ) → k < 64 → (1 * 2 ^ k) % 2 ^ 64 ≡ 2 ^ k
 shifted k h = rw (one-mul (2 ^ k)) (mod-eq-of-lt (pow-lt {i = k} {j = 64} h))
 
-add-p : tie.Need-add-p
-add-p c = search needs
-
-cast-p : tie.Need-cast-p
-cast-p c = search needs
-
-shl-p : tie.Need-shl-p
-shl-p c = search needs
-
 sub-sat-mul : tie.Need-sub-sat-mul
 sub-sat-mul c =
     let a = c .before .args in
     rw (shifted (a .i + 1) (omega arith)) (pow-pos (a .i + 1))
-
-sat-mul-requires : tie.Need-sat-mul-requires
-sat-mul-requires c κs = search needs
 
 returns : tie.Need-returns
 unfolding doubled
@@ -46,4 +35,4 @@ returns-2 c =
     sym (satMul-full (a .first) (2 ^ (a .i + 1) - 1) m)
 
 pub doubled-spec : {M : Type 1} → statement M
-doubled-spec = tie.close (tie.spec add-p cast-p shl-p sub-sat-mul sat-mul-requires returns returns-2)
+doubled-spec = tie.close (tie.spec (λ c. search needs) (λ c. search needs) (λ c. search needs) sub-sat-mul (λ c κs. tt) returns returns-2)

@@ -2,16 +2,10 @@ use borrow.Author.Needs.{needs}
 use native.Mathlib.Omega.{arith}
 use Prim.Native.Nat.{_+_, _≤_}
 use mathlib.Core.Path.{sym}
-use Rattle.time.specs.Time.{least-left, least-right}
+use Rattle.time.specs.Laws.{least-left, least-right}
 use Rattle.ladder.specs.Fill.{lostOf}
 use Rattle.ladder.proofs.lost.Statement.{statement}
 use Rattle.ladder.proofs.lost.Tie as tie
-
-add-s : tie.Need-add-s
-add-s c = search needs
-
-cast-result : tie.Need-cast-result
-cast-result c = search needs
 
 returns : tie.Need-returns
 unfolding lostOf
@@ -35,4 +29,4 @@ returns-3 c =
     sym (least-right h)
 
 pub lost-spec : {M : Type 1} → statement M
-lost-spec = tie.close (tie.spec add-s cast-result returns returns-2 returns-3)
+lost-spec = tie.close (tie.spec (λ c. search needs) (λ c. search needs) returns returns-2 returns-3)

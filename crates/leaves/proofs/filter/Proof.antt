@@ -81,28 +81,6 @@ returns-3 c = tt
 pub filter-spec : {M : Type 1} → statement M
 filter-spec =
     tie.close
-    (tie.spec
-    Inv-loop
-    μ-loop
-    new-requires
-    new-requires-2
-    loop-holds
-    add-number
-    line-requires
-    tell-no-line-requires
-    finish-requires
-    same-length
-    same-length-2
-    returns
-    sub-respond
-    part-respond-start
-    part-respond-end
-    respond-requires
-    same-length-3
-    same-length-4
-    returns-2
-    loop-less
-    loop-again
-    same-length-5
-    same-length-6
-    returns-3)
+    (tie.spec Inv-loop μ-loop new-requires new-requires-2 loop-holds add-number line-requires tell-no-line-requires finish-requires same-length
+    same-length-2 returns sub-respond part-respond-start part-respond-end respond-requires same-length-3 same-length-4 returns-2 loop-less loop-again
+    same-length-5 same-length-6 returns-3)

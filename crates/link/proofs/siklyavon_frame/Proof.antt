@@ -1,15 +1,9 @@
 use mir.Facts.{toZ-ofZ}
-use Rattle.frames.specs.Exact.{frame-exact}
-use Rattle.poll.proofs.Holds.{two-runs}
+use Rattle.frame.specs.Exact.{frame-exact}
+use Rattle.law_runs.proofs.Holds.{two-runs}
 use borrow.Author.Needs.{needs}
 use Rattle.link.proofs.siklyavon_frame.Statement.{statement}
 use Rattle.link.proofs.siklyavon_frame.Tie as tie
-
-frame-requires : tie.Need-frame-requires
-frame-requires c κs = tt
-
-same-length : tie.Need-same-length
-same-length c = search needs
 
 returns : tie.Need-returns
 returns c =
@@ -18,4 +12,4 @@ returns c =
     (simp z at (f .ensures .0), (simp z at (f .ensures .1 .0), (frame-exact _ _ _ _ _ _ _ _ _ _, two-runs)))
 
 pub siklyavon-frame-spec : {M : Type 1} → statement M
-siklyavon-frame-spec = tie.close (tie.spec frame-requires same-length returns)
+siklyavon-frame-spec = tie.close (tie.spec (λ c κs. tt) (λ c. search needs) returns)

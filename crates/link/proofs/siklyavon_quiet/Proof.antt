@@ -41,7 +41,7 @@ use denote.Triple.Table.{entered, cited}
 use denote.Triple.Walked.{says, Stays, stay-none-ref, stay-none, walkOf, AllGo, goes-none-ref, goes-none, Walks, ends-at, walked, walk-meets}
 use denote.Triple.Clauses.{ensured, lasts}
 use denote.Exit.{yes}
-use Rattle.glance.specs.Busy.{firstBusy, aloneOf, otherBusy}
+use Rattle.link_quiet.specs.Busy.{firstBusy, aloneOf, otherBusy}
 use Rattle.link.specs.Quiet.{Tells, tells-busy, tells-alone, tells-other}
 use Rattle.state.specs.declared.State.{State}
 use Rattle.state.specs.declared.Given as gives
@@ -49,18 +49,18 @@ use Rattle.state.proofs.State as T
 use Rattle.state.proofs.State.Laws as T′
 use Rattle.state.proofs.Given as G
 use Rattle.state.proofs.Given.Laws as G′
-use Rattle.glance.proofs.first_busy as busy
-use Rattle.glance.proofs.first_busy.Symbol as busy-def
-use Rattle.glance.proofs.first_busy.Symbol.{name as #busy}
-use Rattle.glance.proofs.first_busy.Met as busy-thm
-use Rattle.glance.proofs.alone as alone
-use Rattle.glance.proofs.alone.Symbol as alone-def
-use Rattle.glance.proofs.alone.Symbol.{name as #alone}
-use Rattle.glance.proofs.alone.Met as alone-thm
-use Rattle.glance.proofs.other_still as other
-use Rattle.glance.proofs.other_still.Symbol as other-def
-use Rattle.glance.proofs.other_still.Symbol.{name as #other}
-use Rattle.glance.proofs.other_still.Met as other-thm
+use Rattle.link_quiet.proofs.first_busy as busy
+use Rattle.link_quiet.proofs.first_busy.Symbol as busy-def
+use Rattle.link_quiet.proofs.first_busy.Symbol.{name as #busy}
+use Rattle.link_quiet.proofs.first_busy.Met as busy-thm
+use Rattle.link_quiet.proofs.alone as alone
+use Rattle.link_quiet.proofs.alone.Symbol as alone-def
+use Rattle.link_quiet.proofs.alone.Symbol.{name as #alone}
+use Rattle.link_quiet.proofs.alone.Met as alone-thm
+use Rattle.link_quiet.proofs.other_still as other
+use Rattle.link_quiet.proofs.other_still.Symbol as other-def
+use Rattle.link_quiet.proofs.other_still.Symbol.{name as #other}
+use Rattle.link_quiet.proofs.other_still.Met as other-thm
 use Rattle.link.proofs.siklyavon_quiet.Key.{name as #f}
 use Rattle.link.proofs.siklyavon_quiet as f
 use Rattle.link.proofs.siklyavon_quiet.Statement as stated
@@ -302,6 +302,6 @@ siklyavon-quiet-spec 𝓤 H 𝓜 𝓖 𝓡 =
     entered 𝓤 H (tripleOf 𝓤 H (𝓖 .A) f.signature (f.spec 𝓤 H (𝓖 .A) (𝓜 .mem) (𝓡 .run)))
     (tables 𝓤 H 𝓜 𝓡 code.env .C) (tables 𝓤 H 𝓜 𝓡 code.env .Λ) #f code.function (code.unfolded 𝓤 H 𝓜 𝓡)
     (f-meets 𝓤 H (𝓖 .A) (givenOf 𝓤 H 𝓜 𝓖) (𝓜 .mem) (𝓡 .run) (tablesOf 𝓤 H 𝓜 (tables 𝓤 H 𝓜 𝓡 code.env))
-    (cited 𝓤 H (Busy 𝓤 H (𝓖 .A) (𝓜 .mem) (𝓡 .run)) 𝓜 𝓡 code.env #busy busy-def.routine code.calls-glance·first-busy (busy-thm.met 𝓤 H 𝓜 𝓖 𝓡))
-    (cited 𝓤 H (Alone 𝓤 H (𝓖 .A) (𝓜 .mem) (𝓡 .run)) 𝓜 𝓡 code.env #alone alone-def.routine code.calls-glance·alone (alone-thm.met 𝓤 H 𝓜 𝓖 𝓡))
-    (cited 𝓤 H (Other 𝓤 H (𝓖 .A) (𝓜 .mem) (𝓡 .run)) 𝓜 𝓡 code.env #other other-def.routine code.calls-glance·other-still (other-thm.met 𝓤 H 𝓜 𝓖 𝓡)))
+    (cited 𝓤 H (Busy 𝓤 H (𝓖 .A) (𝓜 .mem) (𝓡 .run)) 𝓜 𝓡 code.env #busy busy-def.routine code.calls-link-quiet·first-busy (busy-thm.met 𝓤 H 𝓜 𝓖 𝓡))
+    (cited 𝓤 H (Alone 𝓤 H (𝓖 .A) (𝓜 .mem) (𝓡 .run)) 𝓜 𝓡 code.env #alone alone-def.routine code.calls-link-quiet·alone (alone-thm.met 𝓤 H 𝓜 𝓖 𝓡))
+    (cited 𝓤 H (Other 𝓤 H (𝓖 .A) (𝓜 .mem) (𝓡 .run)) 𝓜 𝓡 code.env #other other-def.routine code.calls-link-quiet·other-still (other-thm.met 𝓤 H 𝓜 𝓖 𝓡)))

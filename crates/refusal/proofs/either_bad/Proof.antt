@@ -1,17 +1,10 @@
 use Rattle.refusal.specs.Standing.{eitherBad}
-use borrow.Author.Needs.{needs}
 use Rattle.refusal.proofs.either_bad.Statement.{statement}
 use Rattle.refusal.proofs.either_bad.Tie as tie
-
-standing-bad-requires : tie.Need-standing-bad-requires
-standing-bad-requires c κs = search needs
 
 returns : tie.Need-returns
 unfolding eitherBad
 returns c = simp (c .if1 .taken, ← c .before .standing-bad .ensures)
-
-standing-bad-requires-2 : tie.Need-standing-bad-requires-2
-standing-bad-requires-2 c κs = search needs
 
 returns-2 : tie.Need-returns-2
 unfolding eitherBad
@@ -19,4 +12,4 @@ returns-2 c = simp (← c .standing-bad2 .ensures, c .before .if1 .left, ← c .
 
 pub either-bad-spec : {M : Type 1} → statement M
 either-bad-spec =
-    tie.close (tie.spec standing-bad-requires returns standing-bad-requires-2 returns-2)
+    tie.close (tie.spec (λ c κs. tt) returns (λ c κs. tt) returns-2)

@@ -1,14 +1,10 @@
 use Rattle.refusal.specs.Standing.{epochBad}
-use borrow.Author.Needs.{needs}
 use Rattle.refusal.proofs.epoch_bad.Statement.{statement}
 use Rattle.refusal.proofs.epoch_bad.Tie as tie
-
-either-bad-requires : tie.Need-either-bad-requires
-either-bad-requires c κs = search needs
 
 returns : tie.Need-returns
 unfolding epochBad
 returns c = simp (c .either-bad .ensures)
 
 pub epoch-bad-spec : {M : Type 1} → statement M
-epoch-bad-spec = tie.close (tie.spec either-bad-requires returns)
+epoch-bad-spec = tie.close (tie.spec (λ c κs. tt) returns)

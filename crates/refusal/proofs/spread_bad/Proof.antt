@@ -5,9 +5,6 @@ use Rattle.refusal.proofs.Signs.{widened, minus, negated, turned}
 use Rattle.refusal.proofs.spread_bad.Statement.{statement}
 use Rattle.refusal.proofs.spread_bad.Tie as tie
 
-cast-top : tie.Need-cast-top
-cast-top c = search needs
-
 sub-if1 : tie.Need-sub-if1
 sub-if1 c = simp (widened (c .args .j) (c .fits .j)) (turned (c .args .j) (c .fits .j))
 
@@ -29,4 +26,4 @@ returns-2 c =
     simp (e, widened j f, toZ-ofZ (c .before .fits .spread))
 
 pub spread-bad-spec : {M : Type 1} → statement M
-spread-bad-spec = tie.close (tie.spec cast-top sub-if1 returns returns-2)
+spread-bad-spec = tie.close (tie.spec (λ c. search needs) sub-if1 returns returns-2)

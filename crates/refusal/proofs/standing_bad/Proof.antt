@@ -1,10 +1,6 @@
 use Rattle.refusal.specs.Standing.{standingBad}
-use borrow.Author.Needs.{needs}
 use Rattle.refusal.proofs.standing_bad.Statement.{statement}
 use Rattle.refusal.proofs.standing_bad.Tie as tie
-
-ladder-bad-requires : tie.Need-ladder-bad-requires
-ladder-bad-requires c κs = search needs
 
 returns : tie.Need-returns
 unfolding standingBad
@@ -15,4 +11,4 @@ unfolding standingBad
 returns-2 c = simp (c .if1 .left)
 
 pub standing-bad-spec : {M : Type 1} → statement M
-standing-bad-spec = tie.close (tie.spec ladder-bad-requires returns returns-2)
+standing-bad-spec = tie.close (tie.spec (λ c κs. tt) returns returns-2)

@@ -1,7 +1,7 @@
 -- `replay::filter` is safe and ends. It counts the lines. Assumes nothing.
 use borrow.Author.Needs.{needs}
 use native.Mathlib.Omega.{arith}
-use Prim.Native.Nat.{_-_, _≤_}
+use Prim.Native.Nat.{_-_}
 use mathlib.Core.Path.{_≡_}
 use lib.ListN.{length}
 use Rattle.replay.proofs.filter.Statement.{statement}

@@ -39,14 +39,4 @@ returns c = tt
 pub rungs-spec : {M : Type 1} → statement M
 rungs-spec =
     tie.close
-    (tie.spec
-    Inv-loop
-    μ-loop
-    cast-n
-    loop-holds
-    rung-requires
-    add-i
-    loop-less
-    loop-again
-    same-length
-    returns)
+    (tie.spec Inv-loop μ-loop cast-n loop-holds rung-requires add-i loop-less loop-again same-length returns)

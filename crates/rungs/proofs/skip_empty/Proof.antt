@@ -45,16 +45,4 @@ returns-2 c = tt
 pub skip-empty-spec : {M : Type 1} → statement M
 skip-empty-spec =
     tie.close
-    (tie.spec
-    Inv-loop
-    μ-loop
-    loop-holds
-    add-number
-    line-requires
-    stops-requires
-    same-length
-    returns
-    loop-less
-    loop-again
-    same-length-2
-    returns-2)
+    (tie.spec Inv-loop μ-loop loop-holds add-number line-requires stops-requires same-length returns loop-less loop-again same-length-2 returns-2)

@@ -78,27 +78,6 @@ returns-3 c = tt
 pub filter-spec : {M : Type 1} → statement M
 filter-spec =
     tie.close
-    (tie.spec
-    Inv-loop
-    μ-loop
-    new-requires
-    begin-requires
-    loop-holds
-    add-number
-    line-requires
-    end-requires
-    same-length
-    same-length-2
-    returns
-    sub-respond
-    part-respond-start
-    part-respond-end
-    respond-requires
-    same-length-3
-    same-length-4
-    returns-2
-    loop-less
-    loop-again
-    same-length-5
-    same-length-6
-    returns-3)
+    (tie.spec Inv-loop μ-loop new-requires begin-requires loop-holds add-number line-requires end-requires same-length same-length-2 returns
+    sub-respond part-respond-start part-respond-end respond-requires same-length-3 same-length-4 returns-2 loop-less loop-again same-length-5
+    same-length-6 returns-3)

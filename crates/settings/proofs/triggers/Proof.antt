@@ -4,12 +4,6 @@ use borrow.Author.Needs.{needs}
 use Rattle.settings.proofs.triggers.Statement.{statement}
 use Rattle.settings.proofs.triggers.Tie as tie
 
-cast-jitter : tie.Need-cast-jitter
-cast-jitter c = search needs
-
-mul-jitter : tie.Need-mul-jitter
-mul-jitter c = search needs
-
 returns : tie.Need-returns
 unfolding failing firstAt
 returns c = simp (eq-eqb _ _ (c .if1 .taken))
@@ -21,9 +15,6 @@ returns-2 c = simp (lt-ltb _ _ (c .if2 .taken), ne-eqb _ _ (c .before .before .i
 returns-3 : tie.Need-returns-3
 unfolding failing firstAt
 returns-3 c = simp (le-leb _ _ (c .if3 .taken), le-ltb _ _ (c .before .before .if2 .left), ne-eqb _ _ (c .before .before .before .before .if1 .left))
-
-below-sum-requires : tie.Need-below-sum-requires
-below-sum-requires c κs = search needs
 
 returns-4 : tie.Need-returns-4
 unfolding failing firstAt
@@ -40,13 +31,4 @@ returns-6 c = simp (le-ltb _ _ (c .if5 .left), c .before .before .if4 .left, ←
 pub triggers-spec : {M : Type 1} → statement M
 triggers-spec =
     tie.close
-    (tie.spec
-    cast-jitter
-    mul-jitter
-    returns
-    returns-2
-    returns-3
-    below-sum-requires
-    returns-4
-    returns-5
-    returns-6)
+    (tie.spec (λ c. search needs) (λ c. search needs) returns returns-2 returns-3 (λ c κs. tt) returns-4 returns-5 returns-6)

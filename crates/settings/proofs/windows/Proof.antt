@@ -1,11 +1,7 @@
 use Rattle.settings.specs.Settings.{failing, firstAt}
 use borrow.Author.Tests.{le-leb, lt-leb, lt-ltb, le-ltb}
-use borrow.Author.Needs.{needs}
 use Rattle.settings.proofs.windows.Statement.{statement}
 use Rattle.settings.proofs.windows.Tie as tie
-
-below-sum-requires : tie.Need-below-sum-requires
-below-sum-requires c κs = search needs
 
 returns : tie.Need-returns
 unfolding failing firstAt
@@ -18,9 +14,6 @@ returns-2 c = simp (le-leb _ _ (c .if2 .taken), c .before .before .if1 .left, �
 returns-3 : tie.Need-returns-3
 unfolding failing firstAt
 returns-3 c = simp (lt-ltb _ _ (c .if3 .taken), lt-leb _ _ (c .before .before .if2 .left), c .before .before .before .before .if1 .left, ← c .before .before .before .before .before .below-sum .ensures)
-
-upto-sum-requires : tie.Need-upto-sum-requires
-upto-sum-requires c κs = search needs
 
 returns-4 : tie.Need-returns-4
 unfolding failing firstAt
@@ -37,12 +30,4 @@ returns-6 c = simp (lt-leb _ _ (c .if5 .left), c .before .before .if4 .left, ←
 pub windows-spec : {M : Type 1} → statement M
 windows-spec =
     tie.close
-    (tie.spec
-    below-sum-requires
-    returns
-    returns-2
-    returns-3
-    upto-sum-requires
-    returns-4
-    returns-5
-    returns-6)
+    (tie.spec (λ c κs. tt) returns returns-2 returns-3 (λ c κs. tt) returns-4 returns-5 returns-6)

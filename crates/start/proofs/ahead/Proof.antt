@@ -5,8 +5,5 @@ use Rattle.start.proofs.ahead.Tie as tie
 returns : tie.Need-returns
 returns c = simp (c .before .if1 .taken)
 
-returns-2 : tie.Need-returns-2
-returns-2 c = search needs
-
 pub ahead-spec : {M : Type 1} → statement M
-ahead-spec = tie.close (tie.spec returns returns-2)
+ahead-spec = tie.close (tie.spec returns (λ c. search needs))

@@ -1,13 +1,6 @@
 use Rattle.start.specs.Start.{calledFor, startKind}
-use borrow.Author.Needs.{needs}
 use Rattle.start.proofs.called_for.Statement.{statement}
 use Rattle.start.proofs.called_for.Tie as tie
-
-may-start-requires : tie.Need-may-start-requires
-may-start-requires c κs = search needs
-
-start-kind-requires : tie.Need-start-kind-requires
-start-kind-requires c κs = search needs
 
 returns : tie.Need-returns
 unfolding calledFor startKind
@@ -23,4 +16,4 @@ returns-3 c = simp (c .if1 .left, ← c .before .may-start .ensures)
 
 pub called-for-spec : {M : Type 1} → statement M
 called-for-spec =
-    tie.close (tie.spec may-start-requires start-kind-requires returns returns-2 returns-3)
+    tie.close (tie.spec (λ c κs. tt) (λ c κs. tt) returns returns-2 returns-3)

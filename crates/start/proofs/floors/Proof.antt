@@ -1,25 +1,15 @@
 use Rattle.start.specs.Start.{floorsPassed}
 use borrow.Author.Tests.{le-leb, lt-leb}
-use borrow.Author.Needs.{needs}
 use Rattle.start.proofs.floors.Statement.{statement}
 use Rattle.start.proofs.floors.Tie as tie
-
-since-requires : tie.Need-since-requires
-since-requires c κs = search needs
 
 returns : tie.Need-returns
 unfolding floorsPassed
 returns c = simp (lt-leb _ _ (c .if1 .taken), ← c .before .before .since .ensures)
 
-since-requires-2 : tie.Need-since-requires-2
-since-requires-2 c κs = search needs
-
 returns-2 : tie.Need-returns-2
 unfolding floorsPassed
 returns-2 c = simp (lt-leb _ _ (c .if2 .taken), ← c .before .before .since2 .ensures, le-leb _ _ (c .before .before .before .if1 .left), ← c .before .before .before .before .before .since .ensures)
-
-aged-requires : tie.Need-aged-requires
-aged-requires c κs = search needs
 
 returns-3 : tie.Need-returns-3
 unfolding floorsPassed
@@ -27,4 +17,4 @@ returns-3 c = simp (← c .aged .ensures, le-leb _ _ (c .before .if2 .left), ←
 
 pub floors-spec : {M : Type 1} → statement M
 floors-spec =
-    tie.close (tie.spec since-requires returns since-requires-2 returns-2 aged-requires returns-3)
+    tie.close (tie.spec (λ c κs. tt) returns (λ c κs. tt) returns-2 (λ c κs. tt) returns-3)

@@ -1,14 +1,7 @@
 use Rattle.start.specs.Start.{silentNow}
 use borrow.Author.Tests.{le-leb, lt-leb}
-use borrow.Author.Needs.{needs}
 use Rattle.start.proofs.silent.Statement.{statement}
 use Rattle.start.proofs.silent.Tie as tie
-
-silence-at-requires : tie.Need-silence-at-requires
-silence-at-requires c κs = search needs
-
-backed-requires : tie.Need-backed-requires
-backed-requires c κs = search needs
 
 returns : tie.Need-returns
 unfolding silentNow
@@ -28,4 +21,4 @@ returns-4 c = simp (c .if1 .left)
 
 pub silent-spec : {M : Type 1} → statement M
 silent-spec =
-    tie.close (tie.spec silence-at-requires backed-requires returns returns-2 returns-3 returns-4)
+    tie.close (tie.spec (λ c κs. tt) (λ c κs. tt) returns returns-2 returns-3 returns-4)

@@ -3,33 +3,11 @@ use borrow.Author.Tests.{le-leb, lt-leb}
 use Rattle.start.proofs.Waits.{damped-last, backed-last, scheduled-last, soft-last, silent-last}
 use mathlib.Core.Path.{_∙_, ap}
 use Rattle.time.specs.Time.{least}
-use borrow.Author.Needs.{needs}
 use Rattle.start.proofs.start_at.Statement.{statement}
 use Rattle.start.proofs.start_at.Tie as tie
 
-gate-requires : tie.Need-gate-requires
-gate-requires c κs = search needs
-
 returns : tie.Need-returns
 returns c = simp (c .before .before .gate .ensures) (soft-last _ _ _ _ _ (le-leb _ _ (c .if1 .taken)))
-
-latest-requires : tie.Need-latest-requires
-latest-requires c κs = search needs
-
-latest-requires-2 : tie.Need-latest-requires-2
-latest-requires-2 c κs = search needs
-
-scheduled-at-requires : tie.Need-scheduled-at-requires
-scheduled-at-requires c κs = search needs
-
-silence-at-requires : tie.Need-silence-at-requires
-silence-at-requires c κs = search needs
-
-max-requires : tie.Need-max-requires
-max-requires c κs = search needs
-
-min-requires : tie.Need-min-requires
-min-requires c κs = search needs
 
 returns-2 : tie.Need-returns-2
 returns-2 c =
@@ -51,15 +29,4 @@ returns-4 c = simp (c .if2 .left, c .before .scheduled-at .ensures, c .before .b
 pub start-at-spec : {M : Type 1} → statement M
 start-at-spec =
     tie.close
-    (tie.spec
-    gate-requires
-    returns
-    latest-requires
-    latest-requires-2
-    scheduled-at-requires
-    silence-at-requires
-    max-requires
-    min-requires
-    returns-2
-    returns-3
-    returns-4)
+    (tie.spec (λ c κs. tt) returns (λ c κs. tt) (λ c κs. tt) (λ c κs. tt) (λ c κs. tt) (λ c κs. tt) (λ c κs. tt) returns-2 returns-3 returns-4)

@@ -3,25 +3,13 @@ use borrow.Author.Needs.{needs}
 use Rattle.start.proofs.start_kind.Statement.{statement}
 use Rattle.start.proofs.start_kind.Tie as tie
 
-floors-requires : tie.Need-floors-requires
-floors-requires c κs = search needs
-
-damped-requires : tie.Need-damped-requires
-damped-requires c κs = search needs
-
 returns : tie.Need-returns
 unfolding kindOf
 returns c = simp (c .if2 .taken, ← c .before .damped .ensures, c .before .before .if1 .taken, ← c .before .before .before .floors .ensures)
 
-scheduled-requires : tie.Need-scheduled-requires
-scheduled-requires c κs = search needs
-
 returns-2 : tie.Need-returns-2
 unfolding kindOf
 returns-2 c = simp (c .if3 .taken, ← c .before .scheduled .ensures, c .before .before .if2 .left, ← c .before .before .before .damped .ensures, c .before .before .before .before .if1 .taken, ← c .before .before .before .before .before .floors .ensures)
-
-silent-requires : tie.Need-silent-requires
-silent-requires c κs = search needs
 
 returns-3 : tie.Need-returns-3
 unfolding kindOf
@@ -42,14 +30,4 @@ returns-6 c = simp (c .if1 .left, ← c .before .floors .ensures)
 pub start-kind-spec : {M : Type 1} → statement M
 start-kind-spec =
     tie.close
-    (tie.spec
-    floors-requires
-    damped-requires
-    returns
-    scheduled-requires
-    returns-2
-    silent-requires
-    returns-3
-    returns-4
-    returns-5
-    returns-6)
+    (tie.spec (λ c κs. tt) (λ c κs. tt) returns (λ c κs. tt) returns-2 (λ c κs. search needs) returns-3 returns-4 returns-5 returns-6)

@@ -1,4 +1,3 @@
-use borrow.Author.Needs.{needs}
 use mir.Facts.{toZ-ofZ}
 use Rattle.start.proofs.Signs.{widen, turned, less-cast, less-fits, less-value, more-cast, more-fits, more-value}
 use Rattle.start.proofs.trigger.Statement.{statement}
@@ -31,9 +30,6 @@ mul-since c =
     let h = simp e at (c .if1 .taken) in
     simp (e, toZ-ofZ (widen z s), toZ-ofZ (turned z s h)) (less-fits z s h)
 
-since-requires : tie.Need-since-requires
-since-requires c κs = search needs
-
 cast-more : tie.Need-cast-more
 cast-more c =
     let z = c .before .args .jitter in
@@ -49,9 +45,6 @@ mul-sat-add c =
     let e = toZ-ofZ s in
     let h = simp e at (c .if1 .left) in
     simp e (more-fits z s h)
-
-sat-add-requires : tie.Need-sat-add-requires
-sat-add-requires c κs = search needs
 
 returns : tie.Need-returns
 returns c =
@@ -72,14 +65,4 @@ returns-2 c =
 pub trigger-spec : {M : Type 1} → statement M
 trigger-spec =
     tie.close
-    (tie.spec
-    cast-wide
-    sub-less
-    cast-less
-    mul-since
-    since-requires
-    cast-more
-    mul-sat-add
-    sat-add-requires
-    returns
-    returns-2)
+    (tie.spec cast-wide sub-less cast-less mul-since (λ c κs. tt) cast-more mul-sat-add (λ c κs. tt) returns returns-2)

@@ -1,15 +1,8 @@
 use mir.Facts.{toZ-ofZ}
 use mir.Syntax.{w32}
 use Rattle.start.specs.Start.{triggerAt}
-use borrow.Author.Needs.{needs}
 use Rattle.start.proofs.trigger_at.Statement.{statement}
 use Rattle.start.proofs.trigger_at.Tie as tie
-
-trigger-requires : tie.Need-trigger-requires
-trigger-requires c κs = search needs
-
-later-requires : tie.Need-later-requires
-later-requires c κs = search needs
 
 returns : tie.Need-returns
 unfolding triggerAt
@@ -18,4 +11,4 @@ returns c =
     simp (c .later .ensures, c .before .trigger .ensures, back)
 
 pub trigger-at-spec : {M : Type 1} → statement M
-trigger-at-spec = tie.close (tie.spec trigger-requires later-requires returns)
+trigger-at-spec = tie.close (tie.spec (λ c κs. tt) (λ c κs. tt) returns)

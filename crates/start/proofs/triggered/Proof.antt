@@ -1,6 +1,5 @@
 use Rattle.start.specs.Start.{triggeredNow}
 use borrow.Author.Tests.{le-leb, lt-leb}
-use borrow.Author.Needs.{needs}
 use Rattle.start.proofs.triggered.Statement.{statement}
 use Rattle.start.proofs.triggered.Tie as tie
 
@@ -16,12 +15,9 @@ returns-3 : tie.Need-returns-3
 unfolding triggeredNow
 returns-3 c = simp (le-leb _ _ (c .if3 .taken), lt-leb _ _ (c .before .before .if2 .left), c .before .before .before .before .if1 .left)
 
-trigger-at-requires : tie.Need-trigger-at-requires
-trigger-at-requires c κs = search needs
-
 returns-4 : tie.Need-returns-4
 unfolding triggeredNow
 returns-4 c = simp (← c .trigger-at .ensures, lt-leb _ _ (c .before .if3 .left), lt-leb _ _ (c .before .before .before .if2 .left), c .before .before .before .before .before .if1 .left)
 
 pub triggered-spec : {M : Type 1} → statement M
-triggered-spec = tie.close (tie.spec returns returns-2 returns-3 trigger-at-requires returns-4)
+triggered-spec = tie.close (tie.spec returns returns-2 returns-3 (λ c κs. tt) returns-4)

@@ -7,9 +7,6 @@ use lib.Pow.{pow-lt}
 use Rattle.time.proofs.factor.Statement.{statement}
 use Rattle.time.proofs.factor.Tie as tie
 
-shl-result : tie.Need-shl-result
-shl-result c = search needs
-
 returns : tie.Need-returns
 unfolding factorOf
 returns c = simp (lt-ltb (c .before .args .exponent) 32 (omega arith), one-mul, mod-eq-of-lt (pow-lt {i = c .before .args .exponent} {j = 64} (search needs)))
@@ -19,4 +16,4 @@ unfolding factorOf
 returns-2 c = simp (le-ltb (c .before .args .exponent) 32 (omega arith))
 
 pub factor-spec : {M : Type 1} → statement M
-factor-spec = tie.close (tie.spec shl-result returns returns-2)
+factor-spec = tie.close (tie.spec (λ c. search needs) returns returns-2)

@@ -1,16 +1,12 @@
 use Rattle.time.specs.Time.{most}
-use borrow.Author.Tests.{le-leb, lt-leb, lt-ltb, le-ltb, eq-eqb, ne-eqb}
+use borrow.Author.Tests.{le-leb, lt-leb, lt-ltb, le-ltb}
 use Rattle.time.proofs.max.Statement.{statement}
 use Rattle.time.proofs.max.Tie as tie
-use Rattle.time.proofs.max.Reads as reads
-use Rattle.time.proofs.max.Lts as lts
 
--- src/lib.rt:70:1
 returns : tie.Need-returns
 unfolding most
 returns c = simp (le-leb _ _ (c .if1 .taken), le-ltb _ _ (c .if1 .taken))
 
--- src/lib.rt:70:1
 returns-2 : tie.Need-returns-2
 unfolding most
 returns-2 c = simp (lt-ltb _ _ (c .if1 .left), lt-leb _ _ (c .if1 .left))

@@ -1,16 +1,12 @@
 use Rattle.time.specs.Time.{least}
-use borrow.Author.Tests.{le-leb, lt-leb, lt-ltb, le-ltb, eq-eqb, ne-eqb}
+use borrow.Author.Tests.{le-leb, lt-leb, lt-ltb, le-ltb}
 use Rattle.time.proofs.min.Statement.{statement}
 use Rattle.time.proofs.min.Tie as tie
-use Rattle.time.proofs.min.Reads as reads
-use Rattle.time.proofs.min.Lts as lts
 
--- src/lib.rt:63:1
 returns : tie.Need-returns
 unfolding least
 returns c = simp (le-leb _ _ (c .if1 .taken), le-ltb _ _ (c .if1 .taken))
 
--- src/lib.rt:63:1
 returns-2 : tie.Need-returns-2
 unfolding least
 returns-2 c = simp (lt-ltb _ _ (c .if1 .left), lt-leb _ _ (c .if1 .left))

@@ -1,30 +1,18 @@
 use native.Mathlib.Omega.{arith}
-use Prim.Native.Nat.{_+_, _*_, _≤_, _<_}
-use borrow.Author.Tests.{le-leb, lt-leb, lt-ltb, le-ltb, eq-eqb, ne-eqb}
+use Prim.Native.Nat.{_+_, _≤_, _<_}
+use borrow.Author.Tests.{le-leb, lt-leb}
 use Rattle.time.specs.Time.{satAdd}
 use borrow.Author.Needs.{needs}
 use Rattle.time.proofs.sat_add.Statement.{statement}
 use Rattle.time.proofs.sat_add.Tie as tie
-use Rattle.time.proofs.sat_add.Reads as reads
-use Rattle.time.proofs.sat_add.Lts as lts
 
--- src/lib.rt:41:13
-sub-if1 : tie.Need-sub-if1
-sub-if1 c = search needs
-
--- src/lib.rt:42:9
-add-result : tie.Need-add-result
-add-result c = search needs
-
--- src/lib.rt:38:1
 returns : tie.Need-returns
 unfolding satAdd
 returns c = let h : c .before .args .a + c .before .args .b ≤ 18446744073709551615 = omega arith in simp (le-leb _ _ h)
 
--- src/lib.rt:38:1
 returns-2 : tie.Need-returns-2
 unfolding satAdd
 returns-2 c = let h : 18446744073709551615 < c .before .args .a + c .before .args .b = omega arith in simp (lt-leb _ _ h)
 
 pub sat-add-spec : {M : Type 1} → statement M
-sat-add-spec = tie.close (tie.spec sub-if1 add-result returns returns-2)
+sat-add-spec = tie.close (tie.spec (λ c. search needs) (λ c. search needs) returns returns-2)

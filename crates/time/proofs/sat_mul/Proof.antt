@@ -1,4 +1,4 @@
-use Prim.Native.Nat.{ℕ, zero, _+_, _*_, _/_, _≤_, _<_}
+use Prim.Native.Nat.{ℕ, _*_, _/_, _≤_, _<_}
 use mathlib.Core.Path.{_≡_}
 use native.Mathlib.Omega.{arith}
 use native.Mathlib.Nat.{zero-mul, mul-comm, le-div-iff-mul-le, div-lt-iff-lt-mul}
@@ -19,9 +19,6 @@ returns : tie.Need-returns
 unfolding satMul
 returns c = simp (c .if1 .taken, zero-mul)
 
-div-if2 : tie.Need-div-if2
-div-if2 c = search needs
-
 mul-result : tie.Need-mul-result
 mul-result c = record { fits = omega (arith, within _ _ (c .before .if1 .left) (c .if2 .taken)) }
 
@@ -34,4 +31,4 @@ unfolding satMul
 returns-3 c = simp (lt-leb _ _ (past _ _ (c .before .if1 .left) (c .if2 .left)))
 
 pub sat-mul-spec : {M : Type 1} → statement M
-sat-mul-spec = tie.close (tie.spec returns div-if2 mul-result returns-2 returns-3)
+sat-mul-spec = tie.close (tie.spec returns (λ c. search needs) mul-result returns-2 returns-3)

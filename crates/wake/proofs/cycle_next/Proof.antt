@@ -4,29 +4,16 @@ use Rattle.wake.specs.Wake.{cycleInstants}
 use Rattle.wake.specs.Earliest.{earliest-one}
 use Rattle.wake.specs.Earliest.{earliest-append}
 use borrow.Author.Tests.{eq-eqb, ne-eqb}
-use borrow.Author.Needs.{needs}
 use Rattle.wake.proofs.cycle_next.Statement.{statement}
 use Rattle.wake.proofs.cycle_next.Tie as tie
-
-ladder-next-requires : tie.Need-ladder-next-requires
-ladder-next-requires c κs = search needs
-
-by-requires : tie.Need-by-requires
-by-requires c κs = search needs
 
 returns : tie.Need-returns
 unfolding cycleInstants
 returns c = simp (c .by .ensures, c .before .ladder-next .ensures, eq-eqb _ _ (c .before .before .before .if1 .taken), earliest-append, earliest-one)
 
-pending-next-requires : tie.Need-pending-next-requires
-pending-next-requires c κs = search needs
-
 returns-2 : tie.Need-returns-2
 unfolding cycleInstants
 returns-2 c = simp (c .pending-next .ensures, eq-eqb _ _ (c .before .before .before .if2 .taken), ne-eqb _ _ (c .before .before .before .before .before .if1 .left))
-
-given-requires : tie.Need-given-requires
-given-requires c κs = search needs
 
 returns-3 : tie.Need-returns-3
 unfolding cycleInstants
@@ -35,11 +22,4 @@ returns-3 c = c .given .ensures ∙ rest-next (c .before .before .before .before
 pub cycle-next-spec : {M : Type 1} → statement M
 cycle-next-spec =
     tie.close
-    (tie.spec
-    ladder-next-requires
-    by-requires
-    returns
-    pending-next-requires
-    returns-2
-    given-requires
-    returns-3)
+    (tie.spec (λ c κs. tt) (λ c κs. tt) returns (λ c κs. tt) returns-2 (λ c κs. tt) returns-3)

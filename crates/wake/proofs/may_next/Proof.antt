@@ -1,11 +1,7 @@
 use Rattle.wake.specs.Due.{mayInstants}
 use Rattle.wake.specs.Earliest.{earliest-nil}
-use borrow.Author.Needs.{needs}
 use Rattle.wake.proofs.may_next.Statement.{statement}
 use Rattle.wake.proofs.may_next.Tie as tie
-
-ladder-next-requires : tie.Need-ladder-next-requires
-ladder-next-requires c κs = search needs
 
 returns : tie.Need-returns
 unfolding mayInstants
@@ -16,4 +12,4 @@ unfolding mayInstants
 returns-2 c = simp (c .if1 .left, earliest-nil)
 
 pub may-next-spec : {M : Type 1} → statement M
-may-next-spec = tie.close (tie.spec ladder-next-requires returns returns-2)
+may-next-spec = tie.close (tie.spec (λ c κs. tt) returns returns-2)

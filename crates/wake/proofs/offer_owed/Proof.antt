@@ -1,17 +1,10 @@
 use Rattle.wake.specs.Quiet.{offerOwed}
-use borrow.Author.Needs.{needs}
 use Rattle.wake.proofs.offer_owed.Statement.{statement}
 use Rattle.wake.proofs.offer_owed.Tie as tie
-
-owed-requires : tie.Need-owed-requires
-owed-requires c κs = search needs
 
 returns : tie.Need-returns
 unfolding offerOwed
 returns c = simp (c .if2 .taken, ← c .before .owed .ensures, c .before .before .if1 .taken)
-
-owed-requires-2 : tie.Need-owed-requires-2
-owed-requires-2 c κs = search needs
 
 returns-2 : tie.Need-returns-2
 unfolding offerOwed
@@ -22,4 +15,4 @@ unfolding offerOwed
 returns-3 c = simp (c .if1 .left)
 
 pub offer-owed-spec : {M : Type 1} → statement M
-offer-owed-spec = tie.close (tie.spec owed-requires returns owed-requires-2 returns-2 returns-3)
+offer-owed-spec = tie.close (tie.spec (λ c κs. tt) returns (λ c κs. tt) returns-2 returns-3)

@@ -1,14 +1,10 @@
 use Rattle.wake.specs.Quiet.{openingIdle}
-use borrow.Author.Needs.{needs}
 use Rattle.wake.proofs.opening_idle.Statement.{statement}
 use Rattle.wake.proofs.opening_idle.Tie as tie
 
 returns : tie.Need-returns
 unfolding openingIdle
 returns c = simp (c .if1 .taken)
-
-idle-requires : tie.Need-idle-requires
-idle-requires c κs = search needs
 
 returns-2 : tie.Need-returns-2
 unfolding openingIdle
@@ -19,4 +15,4 @@ unfolding openingIdle
 returns-3 c = simp (c .if2 .left, ← c .before .idle .ensures, c .before .before .if1 .left)
 
 pub opening-idle-spec : {M : Type 1} → statement M
-opening-idle-spec = tie.close (tie.spec returns idle-requires returns-2 returns-3)
+opening-idle-spec = tie.close (tie.spec returns (λ c κs. tt) returns-2 returns-3)

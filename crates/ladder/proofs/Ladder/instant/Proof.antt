@@ -7,17 +7,8 @@ use Rattle.ladder.specs.Ladder.{instantOf}
 use Rattle.ladder.proofs.Ladder.instant.Statement.{statement}
 use Rattle.ladder.proofs.Ladder.instant.Tie as tie
 
-rungs-requires : tie.Need-rungs-requires
-rungs-requires c κs = search needs
-
-mul-later : tie.Need-mul-later
-mul-later c = search needs
-
 element-copy-out-later : tie.Need-element-copy-out-later
 element-copy-out-later c = omega (arith, held-most maxRungs (c .before .before .before .args .self .sched))
-
-later-requires : tie.Need-later-requires
-later-requires c κs = search needs
 
 returns : tie.Need-returns
 unfolding instantOf
@@ -28,4 +19,4 @@ unfolding instantOf
 returns-2 c = simp (← c .before .rungs .ensures, le-ltb _ _ (c .if1 .left))
 
 pub instant-spec : {M : Type 1} → statement M
-instant-spec = tie.close (tie.spec rungs-requires mul-later element-copy-out-later later-requires returns returns-2)
+instant-spec = tie.close (tie.spec (λ c κs. search needs) (λ c. search needs) element-copy-out-later (λ c κs. tt) returns returns-2)

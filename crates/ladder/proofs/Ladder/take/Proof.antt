@@ -5,8 +5,9 @@ use mathlib.Core.Path.{_≡_, refl, sym, _∙_, ap}
 use mathlib.Core.Bool.{true}
 use Rattle.time.specs.Lists.{fold}
 use Rattle.time.specs.Time.{reachedOf}
-use Rattle.ladder.specs.Schedule.{rungAt}
-use Rattle.ladder.specs.Ladder.{untaken, taking, told, dueFrom, dueRungs, due-all, due-below, due-step, due-done, takeOf, instantOf}
+use Rattle.ladder.specs.Schedule.{maxRungs}
+use Rattle.ladder.specs.Ladder.{untaken, taking, told, dueFrom, takeOf, instantOf}
+use Rattle.ladder.specs.Laws.{due-all, due-below, due-step, due-done}
 use Rattle.ladder.proofs.Ladder.take.Statement.{statement}
 use Rattle.ladder.proofs.Ladder.take.Tie as tie
 
@@ -15,7 +16,7 @@ abbrev Inv-loop : tie.InvT-loop
 Inv-loop self now t₀ t = fold taking t₀ (dueFrom self now (t₀ .next)) ≡ fold taking t (dueFrom self now (t .next))
 
 abbrev μ-loop : tie.MeasureT-loop
-μ-loop self now t₀ t = 16 - t .next
+μ-loop self now t₀ t = maxRungs - t .next
 
 loop-holds : tie.Need-loop-holds Inv-loop μ-loop
 loop-holds c = refl
@@ -36,7 +37,7 @@ loop-less : tie.Need-loop-less Inv-loop μ-loop
 unfolding taking
 loop-less c =
     let b = c .before .before .before .before in
-    let h : b .loop .t .next < 16 = due-below (b .before .args .self) (b .loop .t .next) (b .before .args .now) (ap (λ w. reachedOf w (b .before .args .now)) (sym (c .before .before .before .instant .ensures)) ∙ (sym (c .before .before .reached .ensures) ∙ c .before .if1 .taken)) in
+    let h : b .loop .t .next < maxRungs = due-below (b .before .args .self) (b .loop .t .next) (b .before .args .now) (ap (λ w. reachedOf w (b .before .args .now)) (sym (c .before .before .before .instant .ensures)) ∙ (sym (c .before .before .reached .ensures) ∙ c .before .if1 .taken)) in
     simp (c .step .ensures) (omega arith)
 
 loop-again : tie.Need-loop-again Inv-loop μ-loop

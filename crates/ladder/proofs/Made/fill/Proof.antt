@@ -1,16 +1,16 @@
 use borrow.Author.Needs.{needs}
 use native.Mathlib.Omega.{arith}
-use Prim.Native.Nat.{ℕ, _≤_, _<_, _-_, _+_, _*_, _/_}
+use Prim.Native.Nat.{_≤_, _<_, _-_, _+_, _*_, _/_}
 use mathlib.Core.Path.{_≡_, refl, sym, _∙_, ap}
 use mathlib.Core.List.{_∷_, map}
 use mathlib.Core.Logic.{_⊎_, inl, inr, ⊎-elim}
 use native.Mathlib.Nat.{sub-zero, le-div-iff-mul-le, le-of-lt}
 use lib.ListN.{length, length-map}
 use Rattle.time.specs.Lists.{fold, range, range-more, length-range}
-use Rattle.time.specs.Time.{least, least-le, least-left, least-right, decide}
-use Rattle.ladder.specs.declared.Made.{Made}
-use Rattle.ladder.specs.Schedule.{Rung, maxRungs, keepalive, keepalives}
-use Rattle.ladder.specs.Fill.{Fresh, putOf, fresh-put, put-len, losing, rest-counted}
+use Rattle.time.specs.Laws.{least-le, least-left, least-right, decide}
+use Rattle.ladder.specs.Schedule.{maxRungs, keepalive, keepalives}
+use Rattle.ladder.specs.Laws.{Fresh, fresh-put, put-len, rest-counted}
+use Rattle.ladder.specs.Fill.{putOf, losing}
 use Rattle.ladder.proofs.Made.fill.Statement.{statement}
 use Rattle.ladder.proofs.Made.fill.Tie as tie
 

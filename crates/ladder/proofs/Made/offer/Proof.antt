@@ -5,15 +5,6 @@ use Rattle.ladder.specs.Fill.{offered}
 use Rattle.ladder.proofs.Made.offer.Statement.{statement}
 use Rattle.ladder.proofs.Made.offer.Tie as tie
 
-put-requires : tie.Need-put-requires
-put-requires c κs = search needs
-
-lose-requires : tie.Need-lose-requires
-lose-requires c κs = search needs
-
-put-requires-2 : tie.Need-put-requires-2
-put-requires-2 c κs = search needs
-
 returns : tie.Need-returns
 unfolding offered
 returns c =
@@ -31,4 +22,4 @@ unfolding offered
 returns-3 c = simp (c .put2 .ensures, c .before .if1 .left)
 
 pub offer-spec : {M : Type 1} → statement M
-offer-spec = tie.close (tie.spec put-requires lose-requires put-requires-2 returns returns-2 returns-3)
+offer-spec = tie.close (tie.spec (λ c κs. search needs) (λ c κs. tt) (λ c κs. search needs) returns returns-2 returns-3)

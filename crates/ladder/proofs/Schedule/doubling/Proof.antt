@@ -1,13 +1,14 @@
 use borrow.Author.Needs.{needs}
 use native.Mathlib.Omega.{arith}
-use Prim.Native.Nat.{_≤_, _<_, _-_, _+_}
-use mathlib.Core.Path.{_≡_, refl, sym, _∙_, ap}
+use Prim.Native.Nat.{_≤_, _-_, _+_}
+use mathlib.Core.Path.{_≡_, sym, _∙_, ap}
 use mathlib.Core.List.{map}
 use native.Mathlib.Nat.{sub-zero}
 use Rattle.time.specs.Lists.{fold, range, range-next, range-end}
-use Rattle.time.specs.Time.{most-ge}
+use Rattle.time.specs.Laws.{most-ge}
 use Rattle.ladder.specs.Schedule.{maxRungs, doubled}
-use Rattle.ladder.specs.Fill.{Fresh, offered, fresh-offered, doubling-all, none-yet}
+use Rattle.ladder.specs.Laws.{Fresh, fresh-offered, doubling-all}
+use Rattle.ladder.specs.Fill.{offered, none-yet}
 use Rattle.ladder.proofs.Schedule.doubling.Statement.{statement}
 use Rattle.ladder.proofs.Schedule.doubling.Tie as tie
 

@@ -1,12 +1,12 @@
 use borrow.Author.Needs.{needs}
 use native.Mathlib.Omega.{arith}
 use Prim.Native.Nat.{_≤_, _-_, _+_}
-use mathlib.Core.Path.{_≡_, refl, sym, _∙_, ap}
+use mathlib.Core.Path.{_≡_, sym, _∙_, ap}
 use mathlib.Core.List.{map}
 use native.Mathlib.Nat.{sub-zero}
 use Rattle.time.specs.Time.{none}
 use Rattle.time.specs.Lists.{fold, range, range-next, range-end}
-use Rattle.ladder.specs.Schedule.{maxRungs, lastOf, lastSendOf, rungAt, rungsOf, heldOf}
+use Rattle.ladder.specs.Schedule.{maxRungs, lastOf, lastSendOf, rungAt, rungsOf}
 use Rattle.ladder.specs.Rungs.{held-most}
 use Rattle.ladder.proofs.Schedule.last_send.Statement.{statement}
 use Rattle.ladder.proofs.Schedule.last_send.Tie as tie

@@ -1,17 +1,18 @@
 use borrow.Author.Needs.{needs}
 use native.Mathlib.Omega.{arith}
-use Prim.Native.Nat.{ℕ, suc, _≤_, _<_, _-_, _+_}
+use Prim.Native.Nat.{suc, _≤_, _<_, _-_}
 use mathlib.Core.Path.{_≡_, refl, sym, _∙_, ap, ap₂}
-use mathlib.Core.List.{List, map, _∷_}
+use mathlib.Core.List.{map}
 use native.Mathlib.Numerals.{add-one}
-use lib.ListN.{length, getD, take}
+use lib.ListN.{length, getD}
 use lib.Seq.{slice, slice-cons, slice-empty}
 use Rattle.time.specs.Lists.{fold}
-use Rattle.time.specs.Time.{at, most-ge}
-use Rattle.ladder.specs.declared.Made.{Made}
-use Rattle.ladder.specs.Schedule.{maxRungs, madeOf, doublingOf, filled, heldOf, positive, keepalives, send}
+use Rattle.time.specs.Time.{at}
+use Rattle.time.specs.Laws.{most-ge}
+use Rattle.ladder.specs.Schedule.{maxRungs, madeOf, doublingOf, filled, heldOf, keepalives, send}
 use Rattle.ladder.specs.Rungs.{held-most, offsets-laid}
-use Rattle.ladder.specs.Fill.{Fresh, putOf, fresh-put, fresh-all, filled-step, filled-end, probes-all, plan-most, length-laid, none-yet}
+use Rattle.ladder.specs.Laws.{Fresh, fresh-put, fresh-all, filled-step, filled-end, probes-all, plan-most, length-laid}
+use Rattle.ladder.specs.Fill.{putOf, none-yet}
 use Rattle.ladder.proofs.Schedule.probes.Statement.{statement}
 use Rattle.ladder.proofs.Schedule.probes.Tie as tie
 
@@ -38,7 +39,7 @@ loop-holds : tie.Need-loop-holds Inv-loop μ-loop
 unfolding Fresh
 loop-holds c = (search needs, (omega arith, refl))
 
--- the sends are laid out in all 16 places
+-- the sends are laid out in all places
 places : (c : tie.At-loop Inv-loop μ-loop) → length (c .before .before .before .doubling .result .sched .at) ≡ maxRungs
 unfolding madeOf
 places c =

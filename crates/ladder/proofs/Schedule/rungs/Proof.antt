@@ -6,9 +6,6 @@ use Rattle.ladder.specs.Schedule.{maxRungs, heldOf}
 use Rattle.ladder.proofs.Schedule.rungs.Statement.{statement}
 use Rattle.ladder.proofs.Schedule.rungs.Tie as tie
 
-cast-n : tie.Need-cast-n
-cast-n c = search needs
-
 returns : tie.Need-returns
 unfolding heldOf least
 returns c = simp (le-leb (c .before .before .args .self .len) maxRungs (omega arith))
@@ -18,4 +15,4 @@ unfolding heldOf least
 returns-2 c = simp (lt-leb (c .before .before .args .self .len) maxRungs (omega arith))
 
 pub rungs-spec : {M : Type 1} → statement M
-rungs-spec = tie.close (tie.spec cast-n returns returns-2)
+rungs-spec = tie.close (tie.spec (λ c. search needs) returns returns-2)

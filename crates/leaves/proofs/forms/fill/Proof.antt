@@ -39,14 +39,4 @@ returns c = tt
 pub fill-spec : {M : Type 1} → statement M
 fill-spec =
     tie.close
-    (tie.spec
-    Inv-loop
-    μ-loop
-    loop-holds
-    byte-at-requires
-    write-part-requires
-    add-i
-    loop-less
-    loop-again
-    same-length
-    returns)
+    (tie.spec Inv-loop μ-loop loop-holds byte-at-requires write-part-requires add-i loop-less loop-again same-length returns)

@@ -39,14 +39,4 @@ returns c = tt
 pub write-run-spec : {M : Type 1} → statement M
 write-run-spec =
     tie.close
-    (tie.spec
-    Inv-loop
-    μ-loop
-    write-number-requires
-    loop-holds
-    write-spaced-requires
-    add-i
-    loop-less
-    loop-again
-    same-length
-    returns)
+    (tie.spec Inv-loop μ-loop write-number-requires loop-holds write-spaced-requires add-i loop-less loop-again same-length returns)

@@ -48,15 +48,4 @@ returns-2 c = let b = c .before in sym (b .loop .inv .1 ∙ behind-done (b .befo
 pub behind-spec : {M : Type 1} → statement M
 behind-spec =
     tie.close
-    (tie.spec
-    Inv-loop
-    μ-loop
-    loop-holds
-    returns
-    shared-slice-read-one-if
-    one-if-requires
-    sub-left
-    add-i
-    loop-less
-    loop-again
-    returns-2)
+    (tie.spec Inv-loop μ-loop loop-holds returns shared-slice-read-one-if one-if-requires sub-left add-i loop-less loop-again returns-2)

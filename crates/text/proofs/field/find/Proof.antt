@@ -1,16 +1,11 @@
 -- `text::field::find` meets its contract: past the end there is nothing to look for. Assumes nothing.
 use borrow.Author.Needs.{needs}
-use Prim.Native.Nat.{ℕ, _+_}
-use mathlib.Core.Path.{_≡_, sym, _∙_, ap}
 use native.Mathlib.Omega.{arith}
-use lib.ListN.{length, drop, drop-of-length-le}
+use lib.ListN.{drop-of-length-le}
 use lib.Seq.{take-length}
 use Rattle.bytes.specs.Bytes.{indexOf, slice}
 use Rattle.text.proofs.field.find.Statement.{statement}
 use Rattle.text.proofs.field.find.Tie as tie
-
-find-requires : tie.Need-find-requires
-find-requires c κs = search needs
 
 returns : tie.Need-returns
 unfolding slice
@@ -21,4 +16,4 @@ unfolding indexOf
 returns-2 c = rw (drop-of-length-le (c .before .before .args .s .now) (c .if1 .left)) (omega arith)
 
 pub find-spec : {M : Type 1} → statement M
-find-spec = tie.close (tie.spec find-requires returns returns-2)
+find-spec = tie.close (tie.spec (λ c κs. search needs) returns returns-2)

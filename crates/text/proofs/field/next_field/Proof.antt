@@ -7,9 +7,6 @@ use Rattle.text.proofs.Laws.{index-within}
 use Rattle.text.proofs.field.next_field.Statement.{statement}
 use Rattle.text.proofs.field.next_field.Tie as tie
 
-find-requires : tie.Need-find-requires
-find-requires c κs = search needs
-
 add-t7 : tie.Need-add-t7
 add-t7 c = omega (arith, c .find .ensures, index-within 32 (c .before .before .before .args .line .now) (c .before .before .before .args .at) (c .before .if1 .taken))
 
@@ -22,4 +19,4 @@ unfolding fieldAt
 returns-2 c = simp (lt-leb _ _ (c .if1 .left))
 
 pub next-field-spec : {M : Type 1} → statement M
-next-field-spec = tie.close (tie.spec find-requires add-t7 returns returns-2)
+next-field-spec = tie.close (tie.spec (λ c κs. search needs) add-t7 returns returns-2)

@@ -1,5 +1,5 @@
 -- `text::field::ordinal` meets its contract. The invariant: n is one more than the spaces passed. Assumes nothing.
-use Prim.Native.Nat.{_+_, _≤_, _<_, _-_}
+use Prim.Native.Nat.{_+_, _≤_, _-_}
 use mathlib.Core.Path.{_≡_, refl}
 use native.Mathlib.Omega.{arith}
 use lib.ListN.{length, getD, take}
@@ -58,17 +58,5 @@ returns-3 c = let b = c .before .before in ordinal-here (b .before .before .args
 pub ordinal-spec : {M : Type 1} → statement M
 ordinal-spec =
     tie.close
-    (tie.spec
-    Inv-loop
-    μ-loop
-    loop-holds
-    returns
-    shared-slice-read-one-if
-    one-if-requires
-    add-n
-    add-i
-    loop-less
-    loop-again
-    add-result
-    returns-2
+    (tie.spec Inv-loop μ-loop loop-holds returns shared-slice-read-one-if one-if-requires add-n add-i loop-less loop-again add-result returns-2
     returns-3)

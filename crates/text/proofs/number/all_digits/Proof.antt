@@ -1,6 +1,5 @@
 -- `text::number::all_digits` meets its contract. The invariant: whether all are digits is whether all from i on are. Assumes nothing.
 use Prim.Native.Nat.{_≤_, _-_}
-use mathlib.Core.Bool.{true, false}
 use mathlib.Core.Path.{_≡_, refl, sym, _∙_}
 use native.Mathlib.Omega.{arith}
 use borrow.Author.Tests.{not-true, not-false}

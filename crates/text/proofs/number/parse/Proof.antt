@@ -9,12 +9,6 @@ returns : tie.Need-returns
 unfolding numberOf
 returns c = simp (eq-eqb _ _ (c .if1 .taken))
 
-all-digits-requires : tie.Need-all-digits-requires
-all-digits-requires c κs = search needs
-
-value-requires : tie.Need-value-requires
-value-requires c κs = search needs
-
 returns-2 : tie.Need-returns-2
 unfolding numberOf
 returns-2 c = simp (ne-eqb _ _ (c .before .before .before .if1 .left), ← c .before .before .all-digits .ensures, c .before .if2 .taken, c .value .ensures)
@@ -24,4 +18,4 @@ unfolding numberOf
 returns-3 c = simp (ne-eqb _ _ (c .before .before .if1 .left), ← c .before .all-digits .ensures, c .if2 .left)
 
 pub parse-spec : {M : Type 1} → statement M
-parse-spec = tie.close (tie.spec returns all-digits-requires value-requires returns-2 returns-3)
+parse-spec = tie.close (tie.spec returns (λ c κs. search needs) (λ c κs. search needs) returns-2 returns-3)

@@ -1,6 +1,6 @@
 -- `text::number::value` meets its contract. The invariant: the value is that of the digits from i on that follow those of value v. Assumes nothing.
 use Prim.Native.Nat.{_≤_, _<_, _-_}
-use mathlib.Core.Path.{_≡_, refl, sym, _∙_}
+use mathlib.Core.Path.{_≡_, refl, _∙_}
 use native.Mathlib.Omega.{arith}
 use borrow.Author.Tests.{le-leb, lt-leb}
 use lib.ListN.{length, drop}
@@ -73,19 +73,5 @@ returns-3 c =
 pub value-spec : {M : Type 1} → statement M
 value-spec =
     tie.close
-    (tie.spec
-    Inv-loop
-    μ-loop
-    loop-holds
-    shared-slice-read-digit
-    digit-requires
-    too-large-requires
-    returns
-    too-large-requires-2
-    returns-2
-    mul-v
-    add-v
-    add-i
-    loop-less
-    loop-again
-    returns-3)
+    (tie.spec Inv-loop μ-loop loop-holds shared-slice-read-digit digit-requires too-large-requires returns too-large-requires-2 returns-2 mul-v add-v
+    add-i loop-less loop-again returns-3)

@@ -5,9 +5,6 @@ use borrow.Author.Needs.{needs}
 use Rattle.text.proofs.scan.accept_at.Statement.{statement}
 use Rattle.text.proofs.scan.accept_at.Tie as tie
 
-next-field-requires : tie.Need-next-field-requires
-next-field-requires c κs = search needs
-
 sub-same : tie.Need-sub-same
 sub-same c = field-within (c .before .before .before .before .args .line .now) (c .before .before .before .before .args .at) (c .before .next-field .result) (c .before .next-field .ensures) (c .if1 .taken) .0
 
@@ -16,9 +13,6 @@ part-same-start c = field-within (c .before .before .before .before .args .line 
 
 part-same-end : tie.Need-part-same-end
 part-same-end c = field-within (c .before .before .before .before .args .line .now) (c .before .before .before .before .args .at) (c .before .next-field .result) (c .before .next-field .ensures) (c .if1 .taken) .1
-
-same-requires : tie.Need-same-requires
-same-requires c κs = search needs
 
 returns : tie.Need-returns
 unfolding acceptFrom
@@ -35,12 +29,4 @@ returns-3 c = simp (← c .before .next-field .ensures, c .if1 .left)
 pub accept-at-spec : {M : Type 1} → statement M
 accept-at-spec =
     tie.close
-    (tie.spec
-    next-field-requires
-    sub-same
-    part-same-start
-    part-same-end
-    same-requires
-    returns
-    returns-2
-    returns-3)
+    (tie.spec (λ c κs. search needs) sub-same part-same-start part-same-end (λ c κs. search needs) returns returns-2 returns-3)

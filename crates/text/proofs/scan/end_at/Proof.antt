@@ -1,5 +1,5 @@
 -- `text::scan::end_at` meets its contract. Assumes nothing.
-use borrow.Author.Tests.{le-leb, lt-leb, lt-ltb, le-ltb, eq-eqb, ne-eqb}
+use borrow.Author.Tests.{le-leb, lt-leb, lt-ltb, le-ltb}
 use Rattle.text.proofs.scan.end_at.Statement.{statement}
 use Rattle.text.proofs.scan.end_at.Tie as tie
 

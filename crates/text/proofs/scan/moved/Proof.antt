@@ -1,5 +1,5 @@
 -- `text::scan::moved` meets its contract. Assumes nothing.
-use borrow.Author.Tests.{le-leb, lt-leb, lt-ltb, le-ltb, eq-eqb, ne-eqb}
+use borrow.Author.Tests.{eq-eqb, ne-eqb}
 use borrow.Author.Needs.{needs}
 use Rattle.text.proofs.scan.moved.Statement.{statement}
 use Rattle.text.proofs.scan.moved.Tie as tie
@@ -7,11 +7,8 @@ use Rattle.text.proofs.scan.moved.Tie as tie
 returns : tie.Need-returns
 returns c = simp (eq-eqb _ _ (c .if1 .taken))
 
-stopped-requires : tie.Need-stopped-requires
-stopped-requires c κs = search needs
-
 returns-2 : tie.Need-returns-2
 returns-2 c = simp (c .stopped .ensures, ne-eqb _ _ (c .before .if1 .left))
 
 pub moved-spec : {M : Type 1} → statement M
-moved-spec = tie.close (tie.spec returns stopped-requires returns-2)
+moved-spec = tie.close (tie.spec returns (λ c κs. search needs) returns-2)

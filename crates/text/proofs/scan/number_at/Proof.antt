@@ -5,9 +5,6 @@ use borrow.Author.Needs.{needs}
 use Rattle.text.proofs.scan.number_at.Statement.{statement}
 use Rattle.text.proofs.scan.number_at.Tie as tie
 
-next-field-requires : tie.Need-next-field-requires
-next-field-requires c κs = search needs
-
 sub-parse : tie.Need-sub-parse
 sub-parse c = field-within (c .before .before .before .args .line .now) (c .before .before .before .args .at) (c .before .next-field .result) (c .before .next-field .ensures) (c .if1 .taken) .0
 
@@ -17,18 +14,9 @@ part-parse-start c = field-within (c .before .before .before .args .line .now) (
 part-parse-end : tie.Need-part-parse-end
 part-parse-end c = field-within (c .before .before .before .args .line .now) (c .before .before .before .args .at) (c .before .next-field .result) (c .before .next-field .ensures) (c .if1 .taken) .1
 
-parse-requires : tie.Need-parse-requires
-parse-requires c κs = search needs
-
-moved-requires : tie.Need-moved-requires
-moved-requires c κs = search needs
-
 returns : tie.Need-returns
 unfolding numberFrom
 returns c = simp (c .moved .ensures, c .before .parse .ensures, ← c .before .before .before .before .next-field .ensures, c .before .before .before .if1 .taken)
-
-stopped-requires : tie.Need-stopped-requires
-stopped-requires c κs = search needs
 
 returns-2 : tie.Need-returns-2
 unfolding numberFrom
@@ -37,13 +25,5 @@ returns-2 c = simp (c .stopped .ensures, ← c .before .before .next-field .ensu
 pub number-at-spec : {M : Type 1} → statement M
 number-at-spec =
     tie.close
-    (tie.spec
-    next-field-requires
-    sub-parse
-    part-parse-start
-    part-parse-end
-    parse-requires
-    moved-requires
-    returns
-    stopped-requires
-    returns-2)
+    (tie.spec (λ c κs. search needs) sub-parse part-parse-start part-parse-end (λ c κs. search needs) (λ c κs. search needs) returns
+    (λ c κs. search needs) returns-2)

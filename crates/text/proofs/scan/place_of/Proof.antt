@@ -1,6 +1,6 @@
 -- `text::scan::place_of` meets its contract. The invariant: the place is that among the fields from `at` on. Assumes nothing.
 use Prim.Native.Nat.{_+_, _-_}
-use mathlib.Core.Path.{sym, _∙_}
+use mathlib.Core.Path.{_∙_}
 use native.Mathlib.Omega.{arith}
 use borrow.Author.Tests.{not-true, not-false}
 use lib.ListN.{length}
@@ -56,17 +56,5 @@ loop-again c =
 pub place-of-spec : {M : Type 1} → statement M
 place-of-spec =
     tie.close
-    (tie.spec
-    Inv-loop
-    μ-loop
-    loop-holds
-    next-field-requires
-    returns
-    sub-same
-    part-same-start
-    part-same-end
-    same-requires
-    returns-2
-    add-n
-    loop-less
+    (tie.spec Inv-loop μ-loop loop-holds next-field-requires returns sub-same part-same-start part-same-end same-requires returns-2 add-n loop-less
     loop-again)

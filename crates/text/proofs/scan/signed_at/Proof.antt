@@ -5,9 +5,6 @@ use borrow.Author.Needs.{needs}
 use Rattle.text.proofs.scan.signed_at.Statement.{statement}
 use Rattle.text.proofs.scan.signed_at.Tie as tie
 
-next-field-requires : tie.Need-next-field-requires
-next-field-requires c κs = search needs
-
 sub-parse-signed : tie.Need-sub-parse-signed
 sub-parse-signed c = field-within (c .before .before .before .args .line .now) (c .before .before .before .args .at) (c .before .next-field .result) (c .before .next-field .ensures) (c .if1 .taken) .0
 
@@ -17,18 +14,9 @@ part-parse-signed-start c = field-within (c .before .before .before .args .line 
 part-parse-signed-end : tie.Need-part-parse-signed-end
 part-parse-signed-end c = field-within (c .before .before .before .args .line .now) (c .before .before .before .args .at) (c .before .next-field .result) (c .before .next-field .ensures) (c .if1 .taken) .1
 
-parse-signed-requires : tie.Need-parse-signed-requires
-parse-signed-requires c κs = search needs
-
-moved-signed-requires : tie.Need-moved-signed-requires
-moved-signed-requires c κs = search needs
-
 returns : tie.Need-returns
 unfolding signedFrom
 returns c = simp (c .moved-signed .ensures, c .before .parse-signed .ensures, ← c .before .before .before .before .next-field .ensures, c .before .before .before .if1 .taken)
-
-scan-at-requires : tie.Need-scan-at-requires
-scan-at-requires c κs = search needs
 
 returns-2 : tie.Need-returns-2
 unfolding signedFrom
@@ -37,13 +25,5 @@ returns-2 c = simp (c .scan-at .ensures, ← c .before .before .next-field .ensu
 pub signed-at-spec : {M : Type 1} → statement M
 signed-at-spec =
     tie.close
-    (tie.spec
-    next-field-requires
-    sub-parse-signed
-    part-parse-signed-start
-    part-parse-signed-end
-    parse-signed-requires
-    moved-signed-requires
-    returns
-    scan-at-requires
-    returns-2)
+    (tie.spec (λ c κs. search needs) sub-parse-signed part-parse-signed-start part-parse-signed-end (λ c κs. search needs) (λ c κs. search needs)
+    returns (λ c κs. search needs) returns-2)

@@ -5,9 +5,6 @@ use borrow.Author.Needs.{needs}
 use Rattle.text.proofs.scan.word_at.Statement.{statement}
 use Rattle.text.proofs.scan.word_at.Tie as tie
 
-next-field-requires : tie.Need-next-field-requires
-next-field-requires c κs = search needs
-
 sub-place-of : tie.Need-sub-place-of
 sub-place-of c = field-within (c .before .before .before .before .args .line .now) (c .before .before .before .before .args .at) (c .before .next-field .result) (c .before .next-field .ensures) (c .if1 .taken) .0
 
@@ -17,18 +14,9 @@ part-place-of-start c = field-within (c .before .before .before .before .args .l
 part-place-of-end : tie.Need-part-place-of-end
 part-place-of-end c = field-within (c .before .before .before .before .args .line .now) (c .before .before .before .before .args .at) (c .before .next-field .result) (c .before .next-field .ensures) (c .if1 .taken) .1
 
-place-of-requires : tie.Need-place-of-requires
-place-of-requires c κs = search needs
-
-worded-requires : tie.Need-worded-requires
-worded-requires c κs = search needs
-
 returns : tie.Need-returns
 unfolding wordFrom
 returns c = simp (c .worded .ensures, c .before .place-of .ensures, ← c .before .before .before .before .next-field .ensures, c .before .before .before .if1 .taken)
-
-scan-at-requires : tie.Need-scan-at-requires
-scan-at-requires c κs = search needs
 
 returns-2 : tie.Need-returns-2
 unfolding wordFrom
@@ -37,13 +25,5 @@ returns-2 c = simp (c .scan-at .ensures, ← c .before .before .next-field .ensu
 pub word-at-spec : {M : Type 1} → statement M
 word-at-spec =
     tie.close
-    (tie.spec
-    next-field-requires
-    sub-place-of
-    part-place-of-start
-    part-place-of-end
-    place-of-requires
-    worded-requires
-    returns
-    scan-at-requires
-    returns-2)
+    (tie.spec (λ c κs. search needs) sub-place-of part-place-of-start part-place-of-end (λ c κs. search needs) (λ c κs. search needs) returns
+    (λ c κs. search needs) returns-2)

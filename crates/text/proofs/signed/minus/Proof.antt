@@ -7,9 +7,6 @@ use borrow.Author.Needs.{needs}
 use Rattle.text.proofs.signed.minus.Statement.{statement}
 use Rattle.text.proofs.signed.minus.Tie as tie
 
-cast-result : tie.Need-cast-result
-cast-result c = search needs
-
 sub-result : tie.Need-sub-result
 sub-result c = rw (toZ-pos w64 {n = c .args .n} (omega arith)) (below-fits (c .args .n) (c .pre) .0)
 
@@ -24,4 +21,4 @@ returns c =
     rw (toZ-pos w64 {n = c .args .n} (omega arith), toZ-ofZ (b .0), toZ-ofZ (b .1)) (below-is (c .args .n))
 
 pub minus-spec : {M : Type 1} → statement M
-minus-spec = tie.close (tie.spec cast-result sub-result cast-result-2 returns)
+minus-spec = tie.close (tie.spec (λ c. search needs) sub-result cast-result-2 returns)

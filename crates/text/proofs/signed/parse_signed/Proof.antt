@@ -12,20 +12,11 @@ use borrow.Author.Needs.{needs}
 use Rattle.text.proofs.signed.parse_signed.Statement.{statement}
 use Rattle.text.proofs.signed.parse_signed.Tie as tie
 
-is-minus-requires : tie.Need-is-minus-requires
-is-minus-requires c κs = search needs
-
 sub-parse : tie.Need-sub-parse
 sub-parse c = minus-long (c .before .before .before .args .s .now) (sym (c .before .is-minus .ensures) ∙ c .if1 .taken)
 
 part-parse-start : tie.Need-part-parse-start
 part-parse-start c = minus-long (c .before .before .before .args .s .now) (sym (c .before .is-minus .ensures) ∙ c .if1 .taken)
-
-part-parse-end : tie.Need-part-parse-end
-part-parse-end c = search needs
-
-parse-requires : tie.Need-parse-requires
-parse-requires c κs = search needs
 
 minus-requires : tie.Need-minus-requires
 minus-requires c κs = rw (c .parse .ensures) (number-le _ 2147483648)
@@ -37,9 +28,6 @@ returns c =
     let whole : take (length s - 1) (drop 1 s) ≡ drop 1 s = take-all (length s - 1) (drop 1 s) (simp length-drop (omega arith)) in
     rw (toZ-ofZ {w = w32} {z = c .minus .result} (record { sfits = c .minus .ok })) (simp (c .minus .ensures, c .before .parse .ensures, whole, ← c .before .before .before .before .is-minus .ensures, c .before .before .before .if1 .taken))
 
-parse-requires-2 : tie.Need-parse-requires-2
-parse-requires-2 c κs = search needs
-
 plus-requires : tie.Need-plus-requires
 plus-requires c κs = rw (c .parse2 .ensures) (number-le _ 2147483647)
 
@@ -50,14 +38,5 @@ returns-2 c = rw (toZ-ofZ {w = w32} {z = c .plus .result} (record { sfits = c .p
 pub parse-signed-spec : {M : Type 1} → statement M
 parse-signed-spec =
     tie.close
-    (tie.spec
-    is-minus-requires
-    sub-parse
-    part-parse-start
-    part-parse-end
-    parse-requires
-    minus-requires
-    returns
-    parse-requires-2
-    plus-requires
-    returns-2)
+    (tie.spec (λ c κs. search needs) sub-parse part-parse-start (λ c. search needs) (λ c κs. search needs) minus-requires returns
+    (λ c κs. search needs) plus-requires returns-2)

@@ -6,11 +6,8 @@ use borrow.Author.Needs.{needs}
 use Rattle.text.proofs.signed.plus.Statement.{statement}
 use Rattle.text.proofs.signed.plus.Tie as tie
 
-cast-result : tie.Need-cast-result
-cast-result c = search needs
-
 returns : tie.Need-returns
 returns c = toZ-pos w32 (omega arith)
 
 pub plus-spec : {M : Type 1} → statement M
-plus-spec = tie.close (tie.spec cast-result returns)
+plus-spec = tie.close (tie.spec (λ c. search needs) returns)

@@ -1,16 +1,9 @@
 use borrow.Author.Needs.{needs}
 use Rattle.time.proofs.When.reached.Statement.{statement}
 use Rattle.time.proofs.When.reached.Tie as tie
-use Rattle.time.proofs.When.reached.Reads as reads
-use Rattle.time.proofs.When.reached.Lts as lts
 
--- src/lib.rt:125:5
 returns : tie.Need-returns
 returns c = simp (c .before .if1 .taken)
 
--- src/lib.rt:125:5
-returns-2 : tie.Need-returns-2
-returns-2 c = search needs
-
 pub reached-spec : {M : Type 1} → statement M
-reached-spec = tie.close (tie.spec returns returns-2)
+reached-spec = tie.close (tie.spec returns (λ c. search needs))

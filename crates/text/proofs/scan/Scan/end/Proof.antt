@@ -4,9 +4,6 @@ use borrow.Author.Needs.{needs}
 use Rattle.text.proofs.scan.Scan.end.Statement.{statement}
 use Rattle.text.proofs.scan.Scan.end.Tie as tie
 
-end-at-requires : tie.Need-end-at-requires
-end-at-requires c κs = search needs
-
 returns : tie.Need-returns
 returns c = simp (c .end-at .ensures, eq-eqb _ _ (c .before .if1 .taken))
 
@@ -14,4 +11,4 @@ returns-2 : tie.Need-returns-2
 returns-2 c = simp (ne-eqb _ _ (c .if1 .left))
 
 pub end-spec : {M : Type 1} → statement M
-end-spec = tie.close (tie.spec end-at-requires returns returns-2)
+end-spec = tie.close (tie.spec (λ c κs. search needs) returns returns-2)

@@ -4,17 +4,11 @@ use borrow.Author.Needs.{needs}
 use Rattle.text.proofs.scan.Scan.number.Statement.{statement}
 use Rattle.text.proofs.scan.Scan.number.Tie as tie
 
-number-at-requires : tie.Need-number-at-requires
-number-at-requires c κs = search needs
-
 returns : tie.Need-returns
 returns c = simp (c .number-at .ensures, eq-eqb _ _ (c .before .if1 .taken))
-
-stopped-requires : tie.Need-stopped-requires
-stopped-requires c κs = search needs
 
 returns-2 : tie.Need-returns-2
 returns-2 c = simp (c .stopped .ensures, ne-eqb _ _ (c .before .if1 .left))
 
 pub number-spec : {M : Type 1} → statement M
-number-spec = tie.close (tie.spec number-at-requires returns stopped-requires returns-2)
+number-spec = tie.close (tie.spec (λ c κs. search needs) returns (λ c κs. search needs) returns-2)

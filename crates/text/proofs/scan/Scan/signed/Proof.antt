@@ -4,9 +4,6 @@ use borrow.Author.Needs.{needs}
 use Rattle.text.proofs.scan.Scan.signed.Statement.{statement}
 use Rattle.text.proofs.scan.Scan.signed.Tie as tie
 
-signed-at-requires : tie.Need-signed-at-requires
-signed-at-requires c κs = search needs
-
 returns : tie.Need-returns
 returns c = simp (c .signed-at .ensures, eq-eqb _ _ (c .before .if1 .taken))
 
@@ -14,4 +11,4 @@ returns-2 : tie.Need-returns-2
 returns-2 c = simp (ne-eqb _ _ (c .if1 .left))
 
 pub signed-spec : {M : Type 1} → statement M
-signed-spec = tie.close (tie.spec signed-at-requires returns returns-2)
+signed-spec = tie.close (tie.spec (λ c κs. search needs) returns returns-2)

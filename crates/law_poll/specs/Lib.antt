@@ -1,0 +1,4 @@
+pub mod Kept
+pub mod Still
+pub mod Most
+pub mod After

@@ -1,0 +1,7 @@
+pub mod Late
+pub mod Agree
+pub mod Runs
+pub mod Served
+pub mod Others
+pub mod Link
+pub mod Woken

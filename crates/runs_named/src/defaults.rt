@@ -1,0 +1,42 @@
+// Settings into the row, in the order of its places.
+use settings::Config;
+use text_form::ROW;
+use text_form::put;
+
+pub fn keep(v: &mut [u64; ROW], cfg: Config) {
+    let a = put(v, text_form::SETTINGS, cfg.after);
+    let b = put(v, a, cfg.jitter as u64);
+    let c = put(v, b, cfg.messages);
+    let d = put(v, c, cfg.handshake);
+    let e = put(v, d, cfg.check);
+    keep_windows(v, e, cfg);
+}
+
+fn keep_windows(v: &mut [u64; ROW], i: usize, cfg: Config) {
+    let a = put(v, i, cfg.drain);
+    let b = put(v, a, cfg.retention);
+    let c = put(v, b, cfg.hold);
+    let d = put(v, c, cfg.revert);
+    let e = put(v, d, cfg.dampening);
+    let f = put(v, e, cfg.ttl);
+    keep_ages(v, f, cfg);
+}
+
+fn keep_ages(v: &mut [u64; ROW], i: usize, cfg: Config) {
+    let a = put(v, i, cfg.young);
+    let b = put(v, a, cfg.link_age);
+    let c = put(v, b, cfg.session_age);
+    let d = put(v, c, cfg.floor_link);
+    let e = put(v, d, cfg.floor_session);
+    let f = put(v, e, cfg.floor_cutover);
+    keep_limits(v, f, cfg);
+}
+
+fn keep_limits(v: &mut [u64; ROW], i: usize, cfg: Config) {
+    let a = put(v, i, cfg.silence);
+    let b = put(v, a, cfg.resends as u64);
+    let c = put(v, b, cfg.soft);
+    let d = put(v, c, cfg.hard);
+    let e = put(v, d, cfg.delay);
+    text_form::put_flag(v, e, cfg.arrival);
+}
