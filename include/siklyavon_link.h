@@ -39,7 +39,7 @@
  *   3 the state holds more than 32 candidates
  *   4 a pending or drained epoch stands without a current one
  *   5 two epochs share a tag, or two candidates a sequence number
- *   6 a ladder has more than 16 rungs, or a cursor above their number
+ *   6 a ladder has more than SIKLYAVON_MAX_RUNGS rungs, or a cursor above their number
  *   7 a spread lies outside of -J to J, or an extra above J; J is the setting jitter
  *   8 a frame names a slot that holds no epoch
  *   9 a frame's tag is not that epoch's tag
@@ -83,9 +83,12 @@ typedef struct siklyavon_index {
     uint32_t index;
 } siklyavon_index;
 
+/* The most rungs a schedule holds. */
+#define SIKLYAVON_MAX_RUNGS 16
+
 /* Offsets from an origin, in milliseconds; bit i of keepalive: rung i is a keepalive. */
 typedef struct siklyavon_schedule {
-    uint64_t at[16];
+    uint64_t at[SIKLYAVON_MAX_RUNGS];
     uint64_t keepalive;
     uint8_t len;
 } siklyavon_schedule;
@@ -371,7 +374,7 @@ siklyavon_answer siklyavon_sent(siklyavon_state s, uint64_t time, uint64_t count
  * earliest start; and once the sent count has reached hard, the start of the current epoch
  * (crates/wake/specs/Wake.antt). Refusals 1 to 6.
  *
- * What is proved of it (crates/poll/specs/Runs.antt, wakes of Demand3): an accepted poll, with workers
+ * What is proved of it (crates/law_runs/specs/Runs.antt, wakes of Demand3): an accepted poll, with workers
  * off and an epoch, an attempt or a candidate held, has none of the four that siklyavon_quiet names where
  * the wake, taken for its state, settings and profile, is absent or later than its instant. This supposes
  * - that the poll stands in a list of polls, frames, start replies and told sent counts, refused ones
@@ -424,7 +427,7 @@ siklyavon_woke siklyavon_wake(siklyavon_state s, siklyavon_config cfg, siklyavon
 siklyavon_shown siklyavon_status(siklyavon_state s, siklyavon_config cfg, siklyavon_profile p,
                                  uint64_t time);
 
-/* Samples, every field with a number or a flag of its own within its record (crates/sample): a caller
+/* Samples, every field with a number or a flag of its own within its record (crates/link_sample): a caller
  * holds its records' layout to them. */
 siklyavon_state siklyavon_sample_state(int32_t spread);
 siklyavon_config siklyavon_sample_config(void);

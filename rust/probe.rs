@@ -7,7 +7,7 @@ mod raw;
 use raw::*;
 
 fn rungs() -> Ladder {
-    Ladder { origin: 1, sched: Schedule { at: [2; 16], keepalive: 3, len: 4 }, next: 5 }
+    Ladder { origin: 1, sched: Schedule { at: [2; MAX_RUNGS], keepalive: 3, len: 4 }, next: 5 }
 }
 
 fn last() -> Final {

@@ -142,7 +142,7 @@ use std::fmt;
 /// | 3 | a state with more than 32 candidates |
 /// | 4 | a pending or drained epoch without a current one |
 /// | 5 | two epochs with one tag, or two candidates with one sequence number |
-/// | 6 | a ladder with more than 16 rungs, or with its cursor above their number |
+/// | 6 | a ladder with more than [`raw::MAX_RUNGS`] rungs, or with its cursor above their number |
 /// | 7 | a spread outside of -J to J, or an extra above J; J is the setting `jitter` |
 /// | 8 | a frame for a slot that holds no epoch |
 /// | 9 | a frame with another tag than that epoch's |
@@ -488,7 +488,7 @@ pub fn sent(state: &mut State, now: u64, count: u64) -> Result<(), Refusal> {
 /// current epoch's; the earliest start; and once the sent count has reached `hard`, the start of the
 /// current epoch (crates/wake/specs/Wake.antt). Refusals 1 to 6.
 ///
-/// What is proved of it (crates/poll/specs/Runs.antt, `wakes` of `Demand3`): an accepted poll, with
+/// What is proved of it (crates/law_runs/specs/Runs.antt, `wakes` of `Demand3`): an accepted poll, with
 /// workers off and an epoch, an attempt or a candidate held, has none of the four that [`Watch::quiet`]
 /// names where the wake, taken for its state, settings and profile, is absent or later than its
 /// instant. This supposes that

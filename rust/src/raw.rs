@@ -27,11 +27,14 @@ pub struct Index {
     pub index: u32,
 }
 
+/// The most rungs a schedule holds.
+pub const MAX_RUNGS: usize = 16;
+
 /// Offsets from an origin, in milliseconds; bit i of the map is set where rung i is a keepalive.
 #[repr(C)]
 #[derive(Clone, Copy, Debug, Default, PartialEq, Eq)]
 pub struct Schedule {
-    pub at: [u64; 16],
+    pub at: [u64; MAX_RUNGS],
     pub keepalive: u64,
     pub len: u8,
 }

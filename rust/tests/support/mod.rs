@@ -107,7 +107,7 @@ impl<'a> Fields<'a> {
         l.sched.keepalive = self.num();
         for i in 0..usize::from(l.sched.len) {
             let n = self.num();
-            if i < 16 {
+            if i < raw::MAX_RUNGS {
                 l.sched.at[i] = n;
             }
         }

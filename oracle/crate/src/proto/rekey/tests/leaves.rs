@@ -1,6 +1,6 @@
 //! The program `leaves`: ladder.rs, params.rs and time/mod.rs, one request
 //! a line.
-use super::super::ladder::{Ladder, Schedule, later, millis};
+use super::super::ladder::{Ladder, MAX_RUNGS, Schedule, later, millis};
 use super::super::machine::oracle::since_ms;
 use super::super::params::{Params, msg1_span};
 use super::lines::{Fields, arguments, filter, finish, number, put, put_opt};
@@ -144,8 +144,8 @@ fn answer(line: &str, s: &mut String) {
 
 fn take(f: &mut Fields<'_>, s: &mut String) {
     let (origin, next, len, keepalive) = (f.num(), f.num(), f.num::<usize>(), f.num());
-    if len > 16 {
-        f.bad("more than 16 rungs");
+    if len > MAX_RUNGS {
+        f.bad("more rungs than fit");
     }
     let at: Vec<u64> = (0..len).map(|_| f.num()).collect();
     let now = TestInstant(f.num());
@@ -265,7 +265,8 @@ fn schedules(g: &mut SplitMix64) -> String {
 }
 
 fn takes(g: &mut SplitMix64) -> String {
-    let len = if g.chance(100) { pick(g, &[0, 16]) } else { g.below(17) };
+    let most = MAX_RUNGS as u64;
+    let len = if g.chance(100) { pick(g, &[0, most]) } else { g.below(most + 1) };
     let next = match g.below(12) {
         0 => len + g.below(256 - len),
         1 => 255,

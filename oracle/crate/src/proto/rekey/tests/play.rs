@@ -1,4 +1,5 @@
 //! The program `machine`: the whole machine in the replay format.
+use super::super::ladder::MAX_RUNGS;
 use super::super::machine::oracle::{self as run, Done, Given, Numbers, Prof, Proof};
 use super::super::params::Params;
 use super::lines::{Fields, arguments, filter, finish, number, put, put_opt};
@@ -217,7 +218,7 @@ fn state(s: &State) -> Option<(u8, u8)> {
     {
         return Some((5, 0));
     }
-    if s.ladders().iter().any(|l| l.at.len() > 16 || l.next > l.at.len() as u64) {
+    if s.ladders().iter().any(|l| l.at.len() > MAX_RUNGS || l.next > l.at.len() as u64) {
         return Some((6, 0));
     }
     None

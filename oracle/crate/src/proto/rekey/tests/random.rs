@@ -1,7 +1,7 @@
 //! Random blocks of the replay format, without answers, close to the edges:
 //! deadlines at now and next to it, equal instants, instants near the end of
 //! the range, ladders partly or wholly taken and not ascending.
-use super::super::ladder::Schedule;
+use super::super::ladder::{MAX_RUNGS, Schedule};
 use super::super::machine::oracle::Proof;
 use super::super::params::Params;
 use super::play::{Call, Flags, leaves_behind, refusal, wake_of};
@@ -199,7 +199,8 @@ impl Gen {
             5 => of(&p.delayed),
             6 => (Vec::new(), 0),
             n => {
-                let len = if self.chance(250) { 16 } else { self.g.below(17) };
+                let most = MAX_RUNGS as u64;
+                let len = if self.chance(250) { most } else { self.g.below(most + 1) };
                 let mut at: Vec<u64> = (0..len)
                     .map(|i| match self.g.below(5) {
                         0 => self.g.below(4),
