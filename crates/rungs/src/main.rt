@@ -57,8 +57,14 @@ fn run(buf: &mut [u8], out: &mut [u8]) {
     }
 }
 
+// Reads the line, without a carriage return at its end.
+fn read(given: &[u8]) -> Asked {
+    let n = text_lines::line_end(given);
+    read_line(&given[..n])
+}
+
 // Reads the line, and tells what is wrong with it.
-fn read(line: &[u8]) -> Asked {
+fn read_line(line: &[u8]) -> Asked {
     let word = Scan::new().word(line, b"probes doubling");
     let asked = read_numbers(line, word.scan, word.index == 0);
     tell_fault(line, asked.scan);

@@ -46,6 +46,15 @@ module _ (line : List ℕ) (at : ℕ) where
   unfolding fieldAt
   field-within f e h = rw e (within (leb at (length line)) refl (rw e at h))
 
+  bytes-none : (t : Bool) → either t .some ≡ false → [] ≡ bytesOf line (either t)
+  bytes-none true h = absurd (subst T h tt)
+  bytes-none false h = let z : at - at ≡ 0 = omega arith in rw z
+
+  -- a field that is not there has no bytes
+  pub field-none : (f : Field) → f ≡ fieldAt line at → f .some ≡ false → [] ≡ bytesOf line (fieldAt line at)
+  unfolding fieldAt
+  field-none f e h = bytes-none (leb at (length line)) (rw e at h)
+
 same-refl : (s : List ℕ) → same s s ≡ true
 unfolding same
 same-refl [] = refl

@@ -5,6 +5,7 @@ ghost use lib.ListN.{drop};
 ghost use lib.Dec.{eqb};
 ghost use Rattle.bytes.specs.Bytes.{indexOf};
 ghost use Rattle.text.specs.Fields.{fieldAt, one, ordinalOf, behind as behindOf};
+ghost use Rattle.text.specs.Scans.{bytesOf};
 
 // A field lies from `start` to `end`; `next` is where the field after it starts.
 pub struct Field {
@@ -48,6 +49,19 @@ pub fn next_field(line: &[u8], at: usize) -> Field
             next: at,
         }
     }
+}
+
+// The bytes of the field that starts at `at`; none where there is no such field.
+pub fn field_bytes(line: &[u8], at: usize) -> &[u8]
+    ensures { λ r. ⌜ now r ≡ bytesOf (now (line .entry)) (fieldAt (now (line .entry)) at) ⌝ }
+{
+    let f = next_field(line, at);
+    if f.some {
+        let start = f.start;
+        let end = f.end;
+        return &line[start..end];
+    }
+    &line[..0]
 }
 
 // The number, from 1, of the field that starts at `at`, or would start there behind the end.

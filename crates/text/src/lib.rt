@@ -7,6 +7,7 @@ mod signed;
 
 pub use field::Field;
 pub use field::behind;
+pub use field::field_bytes;
 pub use field::find;
 pub use field::next_field;
 pub use field::ordinal;

@@ -1,191 +1,191 @@
-// The calls of the replay format, each on what a row holds. An accepted call's state goes into
-// another row. No public function has a `requires`.
+// The calls of a link on a row of arguments: what stands between the calls and the programs. Each
+// promises its call's definition at what the row holds. No function has a `requires`.
+ghost use mathlib.Core.Path.{_≡_};
+ghost use mathlib.Core.List.{[]};
+ghost use Rattle.answer.specs.Answers.{Answers};
+ghost use Rattle.text_calls.specs.Calls.{openOn, pollOn, proofAt, frameOn, targetOn, startAt, replyOn, sentOn, wakeOn, statusOn, answerOn, leftOn};
 use answer::Answer;
+use call_read::Shown;
+use call_read::Woke;
 use call_reply::StartReply;
 use frame_slots::FrameProof;
-use text_form::ARGS;
-use text_form::ROW;
-use time::When;
+use settings::Config;
+use state::Profile;
+use state::State;
+use text_args::ARGS;
 
-// What is written of an answer: the number that sends a call back and its place, or 0 and 0; how many
-// events were told, and how many items were listed.
-pub struct Verdict {
-    pub number: u8,
-    pub place: u8,
-    pub len: usize,
-    pub count: usize,
+pub mod place;
+
+// A link: its state, and what stays the same over its calls.
+pub struct Link {
+    pub state: State,
+    pub cfg: Config,
+    pub profile: Profile,
 }
 
-// Keeps an answer's state in the row, and tells the rest of it.
-fn keep(left: &mut [u64; ROW], r: Answer) -> Verdict {
-    text_records::keep(left, r.state);
-    Verdict {
-        number: r.number,
-        place: r.place,
-        len: r.len,
-        count: r.count,
-    }
-}
-
-// `open now role transport lease workers spread`
-pub fn open(v: &[u64; ROW], left: &mut [u64; ROW], log: &mut [u64; 768]) -> Verdict {
-    let cfg = text_records::config_of(v);
-    let profile = text_records::profile_of(v);
-    let lease = text_form::index_at(v, ARGS, 3);
-    let r = call_open::open(
+// A fresh link. The state at hand is not read.
+pub fn open(link: Link, a: &[u64; ARGS], log: &mut [u64; 768]) -> Answer
+    ensures { λ r. ⌜ Answers (openOn link (now (a .entry))) r (now (log .entry)) (now (log .exit)) ⌝ }
+{
+    let cfg = link.cfg;
+    let profile = link.profile;
+    let lease = text_args::index(a, place::OPEN_LEASE);
+    call_open::open(
         cfg,
         profile,
-        text_form::flag_at(v, ARGS, 1),
-        text_form::number_at(v, ARGS, 2),
+        text_args::flag(a, place::OPEN_ROLE),
+        text_args::number(a, place::OPEN_TRANSPORT),
         lease,
-        text_form::flag_at(v, ARGS, 5),
-        text_form::signed_at(v, ARGS, 6),
-        text_form::number_at(v, ARGS, 0),
+        text_args::flag(a, place::OPEN_WORKERS),
+        text_args::signed(a, place::OPEN_SPREAD),
+        text_args::number(a, place::OPEN_NOW),
         log,
-    );
-    keep(left, r)
+    )
 }
 
-// `poll now workers spread extra`
-pub fn poll(v: &[u64; ROW], left: &mut [u64; ROW], log: &mut [u64; 768]) -> Verdict {
-    let s = text_records::state_of(v);
-    let cfg = text_records::config_of(v);
-    let profile = text_records::profile_of(v);
-    let r = poll::poll(
+pub fn poll(link: Link, a: &[u64; ARGS], log: &mut [u64; 768]) -> Answer
+    ensures { λ r. ⌜ Answers (pollOn link (now (a .entry))) r (now (log .entry)) (now (log .exit)) ⌝ }
+{
+    let s = link.state;
+    let cfg = link.cfg;
+    let profile = link.profile;
+    poll::poll(
         s,
         cfg,
         profile,
-        text_form::number_at(v, ARGS, 0),
-        text_form::flag_at(v, ARGS, 1),
-        text_form::signed_at(v, ARGS, 2),
-        extra(v),
+        text_args::number(a, place::POLL_NOW),
+        text_args::flag(a, place::POLL_WORKERS),
+        text_args::signed(a, place::POLL_SPREAD),
+        text_args::extra(a, place::POLL_EXTRA),
         log,
-    );
-    keep(left, r)
+    )
 }
 
-// The extra of a poll. One below 0 is outside of every setting, as the largest is.
-fn extra(v: &[u64; ROW]) -> u32 {
-    let above = text_form::number_at(v, ARGS, 3);
-    if above < 2147483648 {
-        return 4294967295;
-    }
-    text_form::word(above - 2147483648)
-}
-
-// `frame now slot tag counter k len probe body workers spread` and two buffers
+// A frame's plaintext is at the front of the source; the target takes what is delivered.
 pub fn frame(
-    v: &[u64; ROW],
-    left: &mut [u64; ROW],
-    log: &mut [u64; 768],
+    link: Link,
+    a: &[u64; ARGS],
     source: &[u8],
     target: &mut [u8],
-) -> Verdict {
-    let s = text_records::state_of(v);
-    let cfg = text_records::config_of(v);
-    let profile = text_records::profile_of(v);
-    let p = frame_proof(v);
-    let r = frame::frame(
+    log: &mut [u64; 768],
+) -> Answer
+    ensures frame { λ r. ⌜ Answers (frameOn link (now (a .entry)) (now (source .entry)) (now (target .entry))) r (now (log .entry)) (now (log .exit)) ⌝ }
+    ensures target { λ r. ⌜ now (target .exit) ≡ targetOn link (now (a .entry)) (now (source .entry)) (now (target .entry)) ⌝ }
+{
+    let s = link.state;
+    let cfg = link.cfg;
+    let profile = link.profile;
+    let p = frame_proof(a);
+    frame::frame(
         s,
         cfg,
         profile,
-        text_form::number_at(v, ARGS, 0),
-        text_form::flag_at(v, ARGS, 8),
-        text_form::signed_at(v, ARGS, 9),
+        text_args::number(a, place::FRAME_NOW),
+        text_args::flag(a, place::FRAME_WORKERS),
+        text_args::signed(a, place::FRAME_SPREAD),
         p,
-        text_form::size_at(v, ARGS, 7),
+        text_args::size(a, place::FRAME_BODY),
         source,
         target,
         log,
-    );
-    keep(left, r)
+    )
 }
 
-fn frame_proof(v: &[u64; ROW]) -> FrameProof {
+fn frame_proof(a: &[u64; ARGS]) -> FrameProof
+    ensures { λ r. ⌜ r ≡ proofAt (now (a .entry)) ⌝ }
+{
     FrameProof {
-        tag: text_form::number_at(v, ARGS, 2),
-        slot: text_form::byte_at(v, ARGS, 1),
-        counter: text_form::number_at(v, ARGS, 3),
-        k: text_form::flag_at(v, ARGS, 4),
-        len: text_form::size_at(v, ARGS, 5),
-        probe: text_form::flag_at(v, ARGS, 6),
+        tag: text_args::number(a, place::FRAME_TAG),
+        slot: text_args::byte(a, place::FRAME_SLOT),
+        counter: text_args::number(a, place::FRAME_COUNTER),
+        k: text_args::flag(a, place::FRAME_K),
+        len: text_args::size(a, place::FRAME_LEN),
+        probe: text_args::flag(a, place::FRAME_PROBE),
     }
 }
 
-// `reply now opened hs msg transport lease`
-pub fn reply(v: &[u64; ROW], left: &mut [u64; ROW]) -> Verdict {
-    let s = text_records::state_of(v);
-    let cfg = text_records::config_of(v);
-    let profile = text_records::profile_of(v);
-    let told = start_reply(v);
-    let r = call_reply::reply(s, cfg, profile, text_form::number_at(v, ARGS, 0), told);
-    keep(left, r)
+pub fn reply(link: Link, a: &[u64; ARGS]) -> Answer
+    ensures { λ r. ⌜ Answers (replyOn link (now (a .entry))) r [] [] ⌝ }
+{
+    let s = link.state;
+    let cfg = link.cfg;
+    let profile = link.profile;
+    let told = start_reply(a);
+    call_reply::reply(
+        s,
+        cfg,
+        profile,
+        text_args::number(a, place::REPLY_NOW),
+        told,
+    )
 }
 
-fn start_reply(v: &[u64; ROW]) -> StartReply {
-    let lease = text_form::index_at(v, ARGS, 5);
+fn start_reply(a: &[u64; ARGS]) -> StartReply
+    ensures { λ r. ⌜ r ≡ startAt (now (a .entry)) ⌝ }
+{
+    let lease = text_args::index(a, place::REPLY_LEASE);
     StartReply {
-        opened: text_form::flag_at(v, ARGS, 1),
-        hs: text_form::number_at(v, ARGS, 2),
-        msg: text_form::number_at(v, ARGS, 3),
-        transport: text_form::number_at(v, ARGS, 4),
+        opened: text_args::flag(a, place::REPLY_OPENED),
+        hs: text_args::number(a, place::REPLY_HS),
+        msg: text_args::number(a, place::REPLY_MSG),
+        transport: text_args::number(a, place::REPLY_TRANSPORT),
         lease: lease,
     }
 }
 
-// `sent now count`
-pub fn sent(v: &[u64; ROW], left: &mut [u64; ROW]) -> Verdict {
-    let s = text_records::state_of(v);
-    let r = call_sent::told(
+pub fn sent(link: Link, a: &[u64; ARGS]) -> Answer
+    ensures { λ r. ⌜ Answers (sentOn link (now (a .entry))) r [] [] ⌝ }
+{
+    let s = link.state;
+    call_sent::told(
         s,
-        text_form::number_at(v, ARGS, 0),
-        text_form::number_at(v, ARGS, 1),
-    );
-    keep(left, r)
+        text_args::number(a, place::SENT_NOW),
+        text_args::number(a, place::SENT_COUNT),
+    )
 }
 
-// `wake`. Puts the words of the answer and answers its form.
-pub fn wake(v: &[u64; ROW], w: &mut [u64; 8]) -> usize {
-    let s = text_records::state_of(v);
-    let cfg = text_records::config_of(v);
-    let profile = text_records::profile_of(v);
-    let r = call_read::wake(s, cfg, profile);
-    let at = r.at;
-    if r.number != 0 {
-        return refused(w, r.number, r.place);
-    }
-    if at.some {
-        w[0] = at.at;
-        return text_answers::WAKE;
-    }
-    text_answers::NO_WAKE
+pub fn wake(link: Link) -> Woke
+    ensures { λ r. ⌜ r ≡ wakeOn link ⌝ }
+{
+    let s = link.state;
+    let cfg = link.cfg;
+    let profile = link.profile;
+    call_read::wake(s, cfg, profile)
 }
 
-// `status now`. Puts the words of the answer and answers its form.
-pub fn status(v: &[u64; ROW], w: &mut [u64; 8]) -> usize {
-    let s = text_records::state_of(v);
-    let cfg = text_records::config_of(v);
-    let profile = text_records::profile_of(v);
-    let r = call_read::status(s, cfg, profile, text_form::number_at(v, ARGS, 0));
-    if r.number != 0 {
-        return refused(w, r.number, r.place);
-    }
-    put_when(w, 0, r.tag);
-    w[2] = r.kind as u64;
-    put_when(w, 3, r.wake);
-    put_when(w, 5, r.quiet);
-    text_answers::STATUS
+pub fn status(link: Link, a: &[u64; ARGS]) -> Shown
+    ensures { λ r. ⌜ r ≡ statusOn link (now (a .entry)) ⌝ }
+{
+    let s = link.state;
+    let cfg = link.cfg;
+    let profile = link.profile;
+    call_read::status(s, cfg, profile, text_args::number(a, place::STATUS_NOW))
 }
 
-fn refused(w: &mut [u64; 8], number: u8, place: u8) -> usize {
-    w[0] = number as u64;
-    w[1] = place as u64;
-    text_answers::REFUSED
-}
-
-fn put_when(w: &mut [u64; 8], i: usize, t: When) {
-    if i < 7 {
-        w[i] = t.some as u64;
-        w[i + 1] = t.at;
+// The call of that number, among those that hand a state back; any number past them is `SENT`. Only
+// a frame reads the source and writes to the target.
+pub fn answer(
+    link: Link,
+    call: u8,
+    a: &[u64; ARGS],
+    source: &[u8],
+    target: &mut [u8],
+    log: &mut [u64; 768],
+) -> Answer
+    ensures answer { λ r. ⌜ Answers (answerOn call link (now (a .entry)) (now (source .entry)) (now (target .entry))) r (now (log .entry)) (now (log .exit)) ⌝ }
+    ensures target { λ r. ⌜ now (target .exit) ≡ leftOn call link (now (a .entry)) (now (source .entry)) (now (target .entry)) ⌝ }
+{
+    if call == text_words::OPEN {
+        return open(link, a, log);
     }
+    if call == text_words::POLL {
+        return poll(link, a, log);
+    }
+    if call == text_words::FRAME {
+        return frame(link, a, source, target, log);
+    }
+    if call == text_words::REPLY {
+        return reply(link, a);
+    }
+    sent(link, a)
 }

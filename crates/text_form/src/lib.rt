@@ -1,33 +1,16 @@
-// The replay format: settings, profile, state and the arguments of calls as lines and as a row of
-// numbers. No public function has a `requires`.
-mod grammar;
+// Lines and rows of numbers: settings, a profile, a state and the arguments of a call, read by place
+// and by name from the one list of crate `text_words`. No public function has a `requires`.
+mod letters;
+mod named;
 pub mod places;
 mod read;
 mod row;
 
-pub use grammar::BLOCK;
-pub use grammar::CAND;
-pub use grammar::CANDS;
-pub use grammar::CFG;
-pub use grammar::CUR;
-pub use grammar::DRAIN;
-pub use grammar::FRAME;
-pub use grammar::INIT;
-pub use grammar::MEM;
-pub use grammar::MOST;
-pub use grammar::OPEN;
-pub use grammar::PENDI;
-pub use grammar::PENDR;
-pub use grammar::POLL;
-pub use grammar::PROFILE;
-pub use grammar::REPLY;
-pub use grammar::SENT;
-pub use grammar::STATUS;
-pub use grammar::WAKE;
-pub use grammar::depth;
-pub use grammar::letter;
-pub use grammar::width;
-pub use places::ARGS;
+pub use letters::width;
+pub use named::NAMES;
+pub use named::TWICE;
+pub use named::prepare;
+pub use named::read_line;
 pub use places::CANDIDATE;
 pub use places::CASE;
 pub use places::COUNT;
@@ -39,10 +22,9 @@ pub use places::LADDER;
 pub use places::MEMORY;
 pub use places::NEXT;
 pub use places::OFFSETS;
-pub use places::PROFILES;
 pub use places::ROW;
-pub use places::SETTINGS;
-pub use read::StateRead;
+pub use read::MOST;
+pub use read::Reading;
 pub use read::read_fields;
 pub use read::read_first;
 pub use read::read_state;
@@ -61,7 +43,4 @@ pub use row::put_index;
 pub use row::put_signed;
 pub use row::put_when;
 pub use row::signed_at;
-pub use row::size_at;
-pub use row::take_state;
 pub use row::when_at;
-pub use row::word;

@@ -62,15 +62,9 @@ pub const PENDR_ANSWER: usize = PENDR_RESTART + 1;
 
 pub const CANDIDATE: usize = 10;
 
-// Where each part starts. Only the case in which the cycle is has places, behind the cycle's kind.
-// The candidates stand last, so those past the 32nd find none.
-pub const SETTINGS: usize = 0;
-
-pub const PROFILES: usize = SETTINGS + 23;
-
-pub const ARGS: usize = PROFILES + 5;
-
-pub const MEMORY: usize = ARGS + 16;
+// Where each part of a state starts. Only the case in which the cycle is has places, behind the cycle's
+// kind. The candidates stand last, so those past the 32nd find none.
+pub const MEMORY: usize = 0;
 
 pub const CURRENT: usize = MEMORY + 27;
 
@@ -86,16 +80,10 @@ pub const COUNT: usize = NEXT + 1;
 
 pub const HELD: usize = COUNT + 1;
 
-// The length of a row.
+// The length of the row of a state.
 pub const ROW: usize = HELD + 32 * CANDIDATE;
 
-// The places of a profile in the row.
-pub const PROFILE_MESSAGES: usize = PROFILES;
+// The lengths of the rows of the settings and of a profile.
+pub const SETTINGS: usize = 23;
 
-pub const PROFILE_AT_PROOF: usize = PROFILE_MESSAGES + 1;
-
-pub const PROFILE_SILENCE: usize = PROFILE_AT_PROOF + 1;
-
-pub const PROFILE_SMALLER: usize = PROFILE_SILENCE + 1;
-
-pub const PROFILE_FLOOR: usize = PROFILE_SMALLER + 1;
+pub const PROFILE: usize = 5;

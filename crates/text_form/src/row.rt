@@ -1,37 +1,33 @@
-// A row of numbers: what a block holds. An optional number takes two places, 0 and 0 where it
-// is absent, else 1 and the number; an optional record has such a flag before its fields; a number
-// with a sign is 2^31 above itself; a schedule's offsets take MAX_RUNGS places.
-use crate::places::MEMORY;
+// A row of numbers: a state, settings, a profile or the arguments of a call. An optional number takes
+// two places, 0 and 0 where it is absent, else 1 and the number; an optional record has such a flag
+// before its fields; a number with a sign is 2^31 above itself; a schedule's offsets take MAX_RUNGS
+// places.
 use crate::places::ROW;
 use epoch::Index;
 use time::When;
 
 // The number at `i`, 0 past the end.
-pub fn get(v: &[u64; ROW], i: usize) -> u64 {
-    if i < ROW { v[i] } else { 0 }
+pub fn get(v: &[u64], i: usize) -> u64 {
+    if i < v.len() { v[i] } else { 0 }
 }
 
 // Stores at `i` and answers the next place. Past the end nothing is stored.
-pub fn put(v: &mut [u64; ROW], i: usize, n: u64) -> usize {
-    if i < ROW {
+pub fn put(v: &mut [u64], i: usize, n: u64) -> usize {
+    if i < v.len() {
         v[i] = n;
         return i + 1;
     }
     i
 }
 
-// The place `n` after `i`, at most the end.
+// The place `n` after `i`, or one past the end of every row.
 pub fn after(i: usize, n: usize) -> usize {
     if i < ROW {
         if n < ROW {
-            return least(i + n, ROW);
+            return i + n;
         }
     }
     ROW
-}
-
-fn least(a: usize, b: usize) -> usize {
-    if a < b { a } else { b }
 }
 
 pub fn least_of(a: u64, b: u64) -> u64 {
@@ -39,27 +35,27 @@ pub fn least_of(a: u64, b: u64) -> u64 {
 }
 
 // The number `k` places after `i`.
-pub fn number_at(v: &[u64; ROW], i: usize, k: usize) -> u64 {
+pub fn number_at(v: &[u64], i: usize, k: usize) -> u64 {
     get(v, after(i, k))
 }
 
-pub fn flag_at(v: &[u64; ROW], i: usize, k: usize) -> bool {
+pub fn flag_at(v: &[u64], i: usize, k: usize) -> bool {
     number_at(v, i, k) == 1
 }
 
-pub fn byte_at(v: &[u64; ROW], i: usize, k: usize) -> u8 {
+pub fn byte_at(v: &[u64], i: usize, k: usize) -> u8 {
     byte(number_at(v, i, k))
 }
 
-pub fn size_at(v: &[u64; ROW], i: usize, k: usize) -> usize {
+pub fn size_at(v: &[u64], i: usize, k: usize) -> usize {
     number_at(v, i, k) as usize
 }
 
-pub fn signed_at(v: &[u64; ROW], i: usize, k: usize) -> i32 {
+pub fn signed_at(v: &[u64], i: usize, k: usize) -> i32 {
     signed(number_at(v, i, k))
 }
 
-pub fn when_at(v: &[u64; ROW], i: usize, k: usize) -> When {
+pub fn when_at(v: &[u64], i: usize, k: usize) -> When {
     let from = after(i, k);
     When {
         some: flag_at(v, from, 0),
@@ -67,7 +63,7 @@ pub fn when_at(v: &[u64; ROW], i: usize, k: usize) -> When {
     }
 }
 
-pub fn index_at(v: &[u64; ROW], i: usize, k: usize) -> Index {
+pub fn index_at(v: &[u64], i: usize, k: usize) -> Index {
     let from = after(i, k);
     Index {
         some: flag_at(v, from, 0),
@@ -75,21 +71,21 @@ pub fn index_at(v: &[u64; ROW], i: usize, k: usize) -> Index {
     }
 }
 
-pub fn put_flag(v: &mut [u64; ROW], i: usize, b: bool) -> usize {
+pub fn put_flag(v: &mut [u64], i: usize, b: bool) -> usize {
     put(v, i, b as u64)
 }
 
-pub fn put_when(v: &mut [u64; ROW], i: usize, w: When) -> usize {
+pub fn put_when(v: &mut [u64], i: usize, w: When) -> usize {
     let at = put_flag(v, i, w.some);
     put(v, at, w.at)
 }
 
-pub fn put_index(v: &mut [u64; ROW], i: usize, x: Index) -> usize {
+pub fn put_index(v: &mut [u64], i: usize, x: Index) -> usize {
     let at = put_flag(v, i, x.some);
     put(v, at, x.index as u64)
 }
 
-pub fn put_signed(v: &mut [u64; ROW], i: usize, n: i32) -> usize {
+pub fn put_signed(v: &mut [u64], i: usize, n: i32) -> usize {
     put(v, i, above(n))
 }
 
@@ -130,15 +126,6 @@ fn minus(n: u64) -> i32 {
         (0 - (n as i64)) as i32
     } else {
         0
-    }
-}
-
-// Copies the state of another row.
-pub fn take_state(v: &mut [u64; ROW], from: &[u64; ROW]) {
-    let mut i = MEMORY;
-    while i < ROW {
-        v[i] = from[i];
-        i += 1;
     }
 }
 

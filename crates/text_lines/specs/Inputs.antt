@@ -1,10 +1,10 @@
 -- What is known of a buffer that a file descriptor fills: which bytes are read is not.
 use Prim.Native.Nat.{ℕ, _+_, _-_, _≤_, _<_, min}
-use mathlib.Core.Bool.{true, false, cond}
-use lib.Dec.{ltb}
+use mathlib.Core.Bool.{Bool, true, false, cond}
+use lib.Dec.{ltb, eqb}
 use mathlib.Core.Path.{_≡_}
 use mathlib.Core.List.{List}
-use lib.ListN.{length, take, drop}
+use lib.ListN.{length, getD, take, drop}
 use Rattle.bytes.specs.Bytes.{indexOf, slice}
 use Rattle.text_lines.specs.declared.input.Input.{Input}
 use Rattle.text_lines.specs.declared.input.Line.{Line}
@@ -33,3 +33,18 @@ pub record Found (buf : List ℕ) (r : Line) : Type 0 where
   pub within : r .end ≤ length buf
   pub ends : r .some ≡ true → r .end ≡ r .start + indexOf 10 (slice (r .start) (r .input .end) buf)
   pub next : r .some ≡ true → r .input .start ≡ min (r .end + 1) (r .input .end)
+
+-- where the bytes that are held start and end, within the buffer
+abbrev pub endIn : List ℕ → Input → ℕ
+endIn buf c = min (c .end) (length buf)
+
+abbrev pub startIn : List ℕ → Input → ℕ
+startIn buf c = min (c .start) (endIn buf c)
+
+-- the input has not ended, and no newline stands among the bytes that are held
+unfoldable pub waiting : List ℕ → Input → Bool
+waiting buf c = cond (c .ended) false (eqb (startIn buf c + indexOf 10 (slice (startIn buf c) (endIn buf c) buf)) (endIn buf c))
+
+-- the length without a carriage return (13) at the end
+unfoldable pub lineEnd : List ℕ → ℕ
+lineEnd line = cond (eqb (length line) 0) 0 (cond (eqb (getD line (length line - 1) 0) 13) (length line - 1) (length line))

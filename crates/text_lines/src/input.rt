@@ -1,10 +1,11 @@
 // Lines of a file descriptor, through a lent buffer. A line is a part of the buffer, so a line that
 // is longer than the buffer is not found.
 ghost use mathlib.Core.Path.{_≡_};
-ghost use Prim.Native.Nat.{_-_, _≤_};
+ghost use Prim.Native.Nat.{_-_, _≤_, min};
 ghost use lib.ListN.{length, drop};
 ghost use lib.Seq.{paste};
-ghost use Rattle.text_lines.specs.Inputs.{Filled, Found, lineTo, noLine, lastOf};
+ghost use Rattle.text_lines.specs.Inputs.{Filled, Found, lineTo, noLine, lastOf, waiting, lineEnd};
+ghost use Rattle.io.specs.Counts.{Counts};
 
 // The bytes of the buffer that are not read yet lie from `start` to `end`.
 pub struct Input {
@@ -53,6 +54,34 @@ impl Input {
             input = fill(fd, buf, start, end);
         }
     }
+
+    // Whether the next line is not whole in the buffer, so that `line` reads. A program writes out
+    // what it holds before such a read, since the one who types lines waits for the answers.
+    pub fn waits(self, buf: &[u8]) -> bool
+        ensures { λ r. ⌜ r ≡ waiting (now (buf .entry)) self ⌝ }
+    {
+        if self.ended {
+            return false;
+        }
+        let end = least(self.end, buf.len());
+        let start = least(self.start, end);
+        bytes::scan::find(buf, start, end, b'\n') == end
+    }
+}
+
+// How long a line is without the carriage return that a line of some systems ends with.
+pub fn line_end(line: &[u8]) -> usize
+    ensures { λ r. ⌜ Counts r (now (line .entry)) ⌝ }
+    ensures { λ r. ⌜ r ≡ lineEnd (now (line .entry)) ⌝ }
+{
+    let n = line.len();
+    if n == 0 {
+        return 0;
+    }
+    if line[n - 1] == b'\r' {
+        return n - 1;
+    }
+    n
 }
 
 // The line up to `end`, with the next line at `next`.
@@ -110,7 +139,7 @@ fn bounded(input: Input, len: usize) -> Input
 }
 
 fn least(a: usize, b: usize) -> usize
-    ensures { λ r. ⌜ (r ≤ a) × (r ≤ b) ⌝ }
+    ensures { λ r. ⌜ r ≡ min a b ⌝ }
 {
     if a < b { a } else { b }
 }

@@ -26,7 +26,8 @@ use text_form::number_at;
 use text_form::places;
 use text_form::when_at;
 
-pub fn config_of(v: &[u64; ROW]) -> Config {
+// The settings, in the order of the replay format.
+pub fn config_of(v: &[u64; places::SETTINGS]) -> Config {
     Config {
         after: v[0],
         jitter: text_form::half(v[1]),
@@ -54,13 +55,13 @@ pub fn config_of(v: &[u64; ROW]) -> Config {
     }
 }
 
-pub fn profile_of(v: &[u64; ROW]) -> Profile {
+pub fn profile_of(v: &[u64; places::PROFILE]) -> Profile {
     Profile {
-        messages: v[places::PROFILE_MESSAGES],
-        at_proof: v[places::PROFILE_AT_PROOF] == 1,
-        silence: v[places::PROFILE_SILENCE] == 1,
-        smaller: v[places::PROFILE_SMALLER] == 1,
-        floor: v[places::PROFILE_FLOOR],
+        messages: v[0],
+        at_proof: v[1] == 1,
+        silence: v[2] == 1,
+        smaller: v[3] == 1,
+        floor: v[4],
     }
 }
 

@@ -1,24 +1,21 @@
 // The state of a row as a line of the replay format. No public function has a `requires`.
 use libc::STDOUT_FILENO;
-use text_form::ROW;
+use text_form::places;
 use text_lines::Output;
 
-// The output so far, the next place of the row, and how deep among absent records the next letter
-// stands.
+// The output so far, and the next place of the row.
 struct Pen {
     o: Output,
     at: usize,
-    absent: usize,
 }
 
 // Writes what stands behind the word `state`: no fields of an absent record, only the case in which
 // the cycle is, and the candidates and offsets below the length. A keepalive map is written whole, as
 // the Rust shows it.
-pub fn write_state(out: &mut [u8], o: Output, v: &[u64; ROW]) -> Output {
+pub fn write_state(out: &mut [u8], o: Output, v: &[u64]) -> Output {
     let pen = Pen {
         o: o,
         at: text_form::MEMORY,
-        absent: 0,
     };
     let epochs = write_epochs(out, pen, v);
     let cycle = write_cycle(out, epochs, v);
@@ -26,32 +23,44 @@ pub fn write_state(out: &mut [u8], o: Output, v: &[u64; ROW]) -> Output {
 }
 
 // The memory, the current epoch and the drained one.
-fn write_epochs(out: &mut [u8], pen: Pen, v: &[u64; ROW]) -> Pen {
-    let mem = write_named(out, pen, b"mem", text_form::MEM, v);
-    let cur = write_named(out, mem, b" cur", text_form::CUR, v);
-    write_named(out, cur, b" drain", text_form::DRAIN, v)
+fn write_epochs(out: &mut [u8], pen: Pen, v: &[u64]) -> Pen {
+    let mem = write_named(out, pen, b"mem", text_words::MEMORY, v);
+    let cur = write_epoch(out, mem, b" cur", text_words::EPOCH, v);
+    let mut next = cur;
+    next.at = text_form::DRAINED;
+    write_epoch(out, next, b" drain", text_words::DRAIN, v)
 }
 
-fn write_named(out: &mut [u8], pen: Pen, word: &[u8], part: u8, v: &[u64; ROW]) -> Pen {
+fn write_named(out: &mut [u8], pen: Pen, word: &[u8], part: u8, v: &[u64]) -> Pen {
     let named = write_bytes(out, pen, word);
     write_part(out, named, part, v)
 }
 
-fn write_cycle(out: &mut [u8], pen: Pen, v: &[u64; ROW]) -> Pen {
+// An epoch that may be absent.
+fn write_epoch(out: &mut [u8], pen: Pen, word: &[u8], part: u8, v: &[u64]) -> Pen {
+    let named = write_bytes(out, pen, word);
+    let there = write_presence(out, named, v);
+    if text_form::get(v, pen.at) == 1 {
+        return write_part(out, there, part, v);
+    }
+    there
+}
+
+fn write_cycle(out: &mut [u8], pen: Pen, v: &[u64]) -> Pen {
     let mut from = pen;
     from.at = text_form::CASE;
     match text_form::get(v, text_form::KIND) {
-        1 => write_named(out, from, b" cycle init", text_form::INIT, v),
-        2 => write_named(out, from, b" cycle pendi", text_form::PENDI, v),
-        3 => write_named(out, from, b" cycle pendr", text_form::PENDR, v),
+        1 => write_named(out, from, b" cycle init", text_words::INIT, v),
+        2 => write_named(out, from, b" cycle pendi", text_words::PENDI, v),
+        3 => write_named(out, from, b" cycle pendr", text_words::PENDR, v),
         _ => write_bytes(out, from, b" cycle idle"),
     }
 }
 
-fn write_candidates(out: &mut [u8], pen: Pen, v: &[u64; ROW]) -> Pen {
+fn write_candidates(out: &mut [u8], pen: Pen, v: &[u64]) -> Pen {
     let mut from = pen;
     from.at = text_form::NEXT;
-    let counted = write_named(out, from, b" cands", text_form::CANDS, v);
+    let counted = write_named(out, from, b" cands", text_words::CANDIDATES, v);
     write_held(
         out,
         counted,
@@ -60,49 +69,71 @@ fn write_candidates(out: &mut [u8], pen: Pen, v: &[u64; ROW]) -> Pen {
     )
 }
 
-fn write_held(out: &mut [u8], pen: Pen, n: u64, v: &[u64; ROW]) -> Pen {
+fn write_held(out: &mut [u8], pen: Pen, n: u64, v: &[u64]) -> Pen {
     let mut next = pen;
     let mut i: u64 = 0;
     while i < n {
-        next = write_part(out, next, text_form::CAND, v);
+        next = write_part(out, next, text_words::CANDIDATE, v);
         i += 1;
     }
     next
 }
 
-fn write_part(out: &mut [u8], pen: Pen, part: u8, v: &[u64; ROW]) -> Pen {
+fn write_part(out: &mut [u8], pen: Pen, part: u8, v: &[u64]) -> Pen {
+    let mut e = [0u8; text_words::ENTRY];
+    text_words::entry(part, &mut e);
+    write_entry(out, pen, &e, v)
+}
+
+fn write_entry(out: &mut [u8], pen: Pen, e: &[u8], v: &[u64]) -> Pen {
     let mut next = pen;
+    let mut at = text_words::first(e);
     let mut i: usize = 0;
     while i < text_form::MOST {
-        let letter = text_form::letter(part, i);
-        if letter == 0 {
+        let a = text_words::argument_at(e, at);
+        if !a.some {
             return next;
         }
-        next = write_one(out, next, letter, v);
+        next = write_one(out, next, a.letter, v);
+        at = a.next;
         i += 1;
     }
     next
 }
 
-fn write_one(out: &mut [u8], pen: Pen, letter: u8, v: &[u64; ROW]) -> Pen {
-    if 0 < pen.absent {
-        return pass(pen, letter);
-    }
+fn write_one(out: &mut [u8], pen: Pen, letter: u8, v: &[u64]) -> Pen {
     match letter {
-        b'(' => write_presence(out, pen, v),
-        b')' => pen,
         b'l' => write_ladder(out, pen, v),
+        b'L' => write_may_ladder(out, pen, v),
+        b'F' => write_final(out, pen, v),
         b's' => write_signed(out, pen, v),
         b'o' | b'w' | b'k' => write_optional(out, pen, v),
         _ => write_number(out, pen, v),
     }
 }
 
-// A letter of an absent record: no field.
-fn pass(pen: Pen, letter: u8) -> Pen {
+fn write_may_ladder(out: &mut [u8], pen: Pen, v: &[u64]) -> Pen {
+    let there = write_presence(out, pen, v);
+    let after = text_form::after(pen.at, places::MAY_LADDER);
+    if text_form::get(v, pen.at) == 1 {
+        return moved(write_ladder(out, there, v), after);
+    }
+    moved(there, after)
+}
+
+fn write_final(out: &mut [u8], pen: Pen, v: &[u64]) -> Pen {
+    let there = write_presence(out, pen, v);
+    let after = text_form::after(pen.at, places::FINAL);
+    if text_form::get(v, pen.at) == 1 {
+        let msg = write_number(out, there, v);
+        return moved(write_ladder(out, msg, v), after);
+    }
+    moved(there, after)
+}
+
+fn moved(pen: Pen, at: usize) -> Pen {
     let mut next = pen;
-    next.at = text_form::after(pen.at, text_form::width(letter));
-    next.absent = text_form::depth(letter, pen.absent);
+    next.at = at;
     next
 }
 
@@ -113,13 +144,12 @@ fn write_bytes(out: &mut [u8], pen: Pen, s: &[u8]) -> Pen {
     next
 }
 
-fn write_presence(out: &mut [u8], pen: Pen, v: &[u64; ROW]) -> Pen {
+fn write_presence(out: &mut [u8], pen: Pen, v: &[u64]) -> Pen {
     let mut next = pen;
     next.at = text_form::after(pen.at, 1);
     if text_form::get(v, pen.at) == 1 {
         return write_bytes(out, next, b" +");
     }
-    next.absent = 1;
     write_bytes(out, next, b" -")
 }
 
@@ -132,13 +162,13 @@ fn write_value(out: &mut [u8], pen: Pen, n: u64) -> Pen {
     next
 }
 
-fn write_number(out: &mut [u8], pen: Pen, v: &[u64; ROW]) -> Pen {
+fn write_number(out: &mut [u8], pen: Pen, v: &[u64]) -> Pen {
     let mut next = pen;
     next.at = text_form::after(pen.at, 1);
     write_value(out, next, text_form::get(v, pen.at))
 }
 
-fn write_optional(out: &mut [u8], pen: Pen, v: &[u64; ROW]) -> Pen {
+fn write_optional(out: &mut [u8], pen: Pen, v: &[u64]) -> Pen {
     let mut next = pen;
     next.at = text_form::after(pen.at, 2);
     if text_form::get(v, pen.at) == 1 {
@@ -147,7 +177,7 @@ fn write_optional(out: &mut [u8], pen: Pen, v: &[u64; ROW]) -> Pen {
     write_bytes(out, next, b" -")
 }
 
-fn write_signed(out: &mut [u8], pen: Pen, v: &[u64; ROW]) -> Pen {
+fn write_signed(out: &mut [u8], pen: Pen, v: &[u64]) -> Pen {
     let n = text_form::get(v, pen.at);
     let mut next = pen;
     next.at = text_form::after(pen.at, 1);
@@ -161,7 +191,7 @@ fn write_signed(out: &mut [u8], pen: Pen, v: &[u64; ROW]) -> Pen {
 }
 
 // The offsets below the length.
-fn write_ladder(out: &mut [u8], pen: Pen, v: &[u64; ROW]) -> Pen {
+fn write_ladder(out: &mut [u8], pen: Pen, v: &[u64]) -> Pen {
     let len = text_form::number_at(v, pen.at, 2);
     let counted = write_numbers(out, pen, 4, v);
     let mut past = write_numbers(
@@ -174,7 +204,7 @@ fn write_ladder(out: &mut [u8], pen: Pen, v: &[u64; ROW]) -> Pen {
     past
 }
 
-fn write_numbers(out: &mut [u8], pen: Pen, n: u64, v: &[u64; ROW]) -> Pen {
+fn write_numbers(out: &mut [u8], pen: Pen, n: u64, v: &[u64]) -> Pen {
     let mut next = pen;
     let mut i: u64 = 0;
     while i < n {
