@@ -73,6 +73,24 @@ numbered! {
     Wait: u8 { Held = 0, Evidence = 1, Delay = 2 }
 }
 
+numbered! {
+    /// The test that sends a call back, by its number; [`crate::Refusal`] has a sentence for each.
+    Refused: u8 {
+        Settings = 1, Profile = 2, Candidates = 3, NoCurrent = 4, Shared = 5, Ladder = 6, Draw = 7,
+        Slot = 8, Tag = 9, NoStart = 10, Sent = 11,
+    }
+}
+numbered! {
+    /// The check that refuses settings, by its place in number 1; [`crate::Refusal`] has a sentence
+    /// for each.
+    Place: u8 {
+        ZeroMessages = 1, MessagesPastSoft = 2, AfterNotAboveJitter = 3, AfterBelowLinkFloor = 4,
+        AfterTooLong = 5, ZeroCheck = 6, ZeroHold = 7, ZeroRevert = 8, ZeroTtl = 9,
+        ZeroSilence = 10, HandshakeTooShort = 11, DrainTooShort = 12, RetentionBelowDrain = 13,
+        HoldTooShort = 14, SoftNotBelowHard = 15,
+    }
+}
+
 /// One event. Messages, sessions, leases and routes are numbers of the caller.
 #[derive(Clone, Copy, Debug, PartialEq, Eq)]
 pub enum Event {

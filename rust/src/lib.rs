@@ -9,6 +9,11 @@
 //! The archive `target/staticlib/liblink.a` is made by `rt staticlib link` in the repository's top
 //! folder; the environment variable `SIKLYAVON_LINK` names another folder that has it.
 //!
+//! `cargo run --offline --example tablet` runs a whole host loop (examples/tablet.rs of the
+//! repository). What happens outside of these calls is written into the state by the caller: the
+//! table "What happens outside, and what to write for it" of include/siklyavon_link.h has the fields,
+//! whose names are the same here.
+//!
 //! # Example
 //! A link is opened, handed a frame that authenticated, polled at its wake, and answers a START.
 //! ```
@@ -28,7 +33,7 @@
 //! // A frame from the peer under the current epoch, which Rust authenticated: 4 bytes.
 //! let proof = FrameProof { tag: 1, slot: Slot::Current.number(), counter: 9, k: false, len: 4, probe: false };
 //! let (source, mut target) = (*b"data", [0u8; 16]);
-//! let at = Instant { cfg: &cfg, profile: &profile, now: 2000, workers: false };
+//! let at = Given { cfg: &cfg, profile: &profile, now: 2000, workers: false };
 //! frame(&mut state, at, 0, proof, 0, &source, &mut target, &mut log)?;
 //! assert_eq!(log.events().next(), Some(Event::Mark { tag: 1, counter: 9 }));
 //! assert_eq!(&target[..4], b"data");
@@ -38,9 +43,9 @@
 //!
 //! // Polled at its wake: the time trigger calls for a start. Until then it is quiet.
 //! let now = wake(&state, &cfg, &profile)?.expect("a start is to come");
-//! assert!(quiet(&state, Instant { now: now - 1, ..at }, 0, 0));
+//! assert!(quiet(&state, Given { now: now - 1, ..at }, 0, 0));
 //! assert_eq!(now, 121_000);
-//! let at = Instant { now, ..at };
+//! let at = Given { now, ..at };
 //! poll(&mut state, at, 0, 0, &mut log)?;
 //! assert_eq!(log.events().collect::<Vec<_>>(), [Event::Start(Start::Scheduled)]);
 //!
@@ -87,7 +92,7 @@
 //! # let mut log = Log::new();
 //! # let mut state = open(&cfg, &profile, opening, 0, 1000, &mut log)?;
 //! # let draws = || (0, 0);
-//! let mut at = Instant { cfg: &cfg, profile: &profile, now: 1000, workers: false };
+//! let mut at = Given { cfg: &cfg, profile: &profile, now: 1000, workers: false };
 //! let mut next = 0; // no poll before this instant
 //! let mut retry = 0; // no start is tried before this one
 //! let mut failed = 0; // tries in a row that opened nothing
@@ -123,8 +128,8 @@ mod event;
 pub mod raw;
 
 pub use event::{
-    Abandon, CycleKind, Event, Evidence, Log, Message, Purpose, Reason, Role, Slot, Start, Teardown,
-    Wait,
+    Abandon, CycleKind, Event, Evidence, Log, Message, Place, Purpose, Reason, Refused, Role, Slot,
+    Start, Teardown, Wait,
 };
 pub use raw::{
     Attempt, Bit, Candidates, Config, Cycle, Drain, Epoch, Final, FrameProof, Ids, Index, Ladder,
@@ -132,8 +137,8 @@ pub use raw::{
 };
 use std::fmt;
 
-/// A call that was sent back: the number of the first test that failed, and in number 1 the place of
-/// the first check that the settings fail, else 0.
+/// A call that was sent back: the number of the first test that failed ([`Refused`] names them), and
+/// in number 1 the place of the first check that the settings fail ([`Place`]), else 0.
 ///
 /// | number | what was given |
 /// |---|---|
@@ -285,12 +290,14 @@ pub struct Opening {
     pub workers: bool,
 }
 
-/// What a call is given beside the state: settings, profile, instant and worker flag.
+/// What a call is given beside the state and its draws.
 #[derive(Clone, Copy, Debug)]
-pub struct Instant<'a> {
+pub struct Given<'a> {
     pub cfg: &'a Config,
     pub profile: &'a Profile,
+    /// The call's instant, whole milliseconds of the caller's clock.
     pub now: u64,
+    /// Decrypt workers are there: receive halves are offered to them.
     pub workers: bool,
 }
 
@@ -358,7 +365,7 @@ fn keep(a: &raw::Answer, state: &mut State) -> Result<(), Refusal> {
 /// each poll while their condition holds. Refusals 1 to 7.
 pub fn poll(
     state: &mut State,
-    at: Instant<'_>,
+    given: Given<'_>,
     spread: i32,
     extra: u32,
     log: &mut Log,
@@ -367,10 +374,10 @@ pub fn poll(
     let r = unsafe {
         raw::siklyavon_poll(
             *state,
-            *at.cfg,
-            *at.profile,
-            at.now,
-            at.workers,
+            *given.cfg,
+            *given.profile,
+            given.now,
+            given.workers,
             spread,
             extra,
             &mut log.words,
@@ -392,12 +399,12 @@ impl Watch {
     /// Takes what [`poll`] takes, the draws too: a poll with a draw outside its range is sent back.
     /// 0 and 0 are in range under every settings, and no draw in range makes a link quiet or not, so
     /// a caller may test with these and draw for the polls that it makes.
-    pub fn new(at: Instant<'_>, spread: i32, extra: u32) -> Self {
+    pub fn new(given: Given<'_>, spread: i32, extra: u32) -> Self {
         let given = raw::Given {
-            cfg: *at.cfg,
-            profile: *at.profile,
-            now: at.now,
-            workers: at.workers,
+            cfg: *given.cfg,
+            profile: *given.profile,
+            now: given.now,
+            workers: given.workers,
             extra,
         };
         Self { given, spread }
@@ -415,8 +422,8 @@ impl Watch {
 }
 
 /// The quiet test of one link; see [`Watch`].
-pub fn quiet(state: &State, at: Instant<'_>, spread: i32, extra: u32) -> bool {
-    Watch::new(at, spread, extra).quiet(state)
+pub fn quiet(state: &State, given: Given<'_>, spread: i32, extra: u32) -> bool {
+    Watch::new(given, spread, extra).quiet(state)
 }
 
 /// A frame that authenticated: its plaintext, at the front of `source`, goes to `target` from place
@@ -425,7 +432,7 @@ pub fn quiet(state: &State, at: Instant<'_>, spread: i32, extra: u32) -> bool {
 #[allow(clippy::too_many_arguments)]
 pub fn frame(
     state: &mut State,
-    at: Instant<'_>,
+    given: Given<'_>,
     spread: i32,
     proof: FrameProof,
     body: usize,
@@ -437,10 +444,10 @@ pub fn frame(
     let r = unsafe {
         raw::siklyavon_frame(
             *state,
-            *at.cfg,
-            *at.profile,
-            at.now,
-            at.workers,
+            *given.cfg,
+            *given.profile,
+            given.now,
+            given.workers,
             spread,
             proof,
             body,
@@ -458,7 +465,11 @@ pub fn frame(
 /// The answer to a START: the attempt that was opened, or none. It is taken while a start is called
 /// for at its own instant and the sent count is below `hard`, whether a START was told or not. With
 /// none the state stays as it is, and the start is still called for. Refusals 1 to 6 and 10.
-pub fn reply(state: &mut State, at: Instant<'_>, opened: Option<Attempted>) -> Result<(), Refusal> {
+pub fn reply(
+    state: &mut State,
+    given: Given<'_>,
+    opened: Option<Attempted>,
+) -> Result<(), Refusal> {
     let r = match opened {
         None => StartReply::default(),
         Some(a) => StartReply {
@@ -470,7 +481,7 @@ pub fn reply(state: &mut State, at: Instant<'_>, opened: Option<Attempted>) -> R
         },
     };
     // SAFETY: as in `open`.
-    let r = unsafe { raw::siklyavon_reply(*state, *at.cfg, *at.profile, at.now, r) };
+    let r = unsafe { raw::siklyavon_reply(*state, *given.cfg, *given.profile, given.now, r) };
     keep(&r, state)
 }
 

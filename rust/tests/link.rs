@@ -4,8 +4,8 @@ use siklyavon_link::*;
 const PROFILE: Profile =
     Profile { messages: 2, at_proof: false, silence: true, smaller: true, floor: 0 };
 
-fn at(cfg: &Config, now: u64) -> Instant<'_> {
-    Instant { cfg, profile: &PROFILE, now, workers: false }
+fn at(cfg: &Config, now: u64) -> Given<'_> {
+    Given { cfg, profile: &PROFILE, now, workers: false }
 }
 
 /// A link opened at 1000, with a lease, workers off.
@@ -115,7 +115,7 @@ fn quiet_is_accepted() {
         (s, cfg, PROFILE, 0, 16, 7),
         (s, cfg, PROFILE, i32::MIN, u32::MAX, 7),
     ] {
-        let at = Instant { cfg: &cfg, profile: &profile, now: 2000, workers: false };
+        let at = Given { cfg: &cfg, profile: &profile, now: 2000, workers: false };
         assert!(!quiet(&state, at, spread, extra), "number {number}");
         let r = poll(&mut { state }, at, spread, extra, &mut log);
         assert_eq!(r.expect_err("sent back").number, number);
@@ -140,7 +140,7 @@ fn absent_floor() {
     let (cfg, mut log) = (Config::fmp(), Log::new());
     let mut s = opened(&cfg, &mut log);
     let tell = |s: &State, log: &mut Log| {
-        let at = Instant { workers: true, ..at(&cfg, 2000) };
+        let at = Given { workers: true, ..at(&cfg, 2000) };
         poll(&mut { *s }, at, 0, 0, log).expect("accepted");
         told(log)
     };
@@ -180,7 +180,7 @@ fn wakes() {
 
     // Late: an offer is owed with workers on.
     assert_eq!(wakes(&s, &cfg), Some(121_000));
-    assert!(!quiet(&s, Instant { workers: true, ..at(&cfg, 2000) }, 0, 0));
+    assert!(!quiet(&s, Given { workers: true, ..at(&cfg, 2000) }, 0, 0));
 
     // Absent: nothing is held, and a teardown stands.
     let mut bare = State::default();

@@ -6,7 +6,7 @@
 use oracle::bench as published;
 use siklyavon_link::*;
 use std::hint::black_box;
-use std::time::Instant as Clock;
+use std::time::Instant;
 
 #[allow(dead_code)]
 #[path = "../../tests/support/mod.rs"]
@@ -89,7 +89,7 @@ fn loads(cfg: &Config, profile: &Profile, log: &mut Log) -> Vec<Load> {
 fn poll_row(row: &mut [State], cfg: &Config, profile: &Profile, now: u64, log: &mut Log) -> usize {
     let mut told = 0;
     for s in row {
-        let at = Instant { cfg, profile, now, workers: false };
+        let at = Given { cfg, profile, now, workers: false };
         poll(s, at, 0, 0, log).expect("the poll is accepted");
         told += log.len();
     }
@@ -100,7 +100,7 @@ fn poll_row(row: &mut [State], cfg: &Config, profile: &Profile, now: u64, log: &
 #[inline(never)]
 fn watch_row(row: &mut [State], cfg: &Config, profile: &Profile, now: u64, log: &mut Log) -> usize {
     let mut told = 0;
-    let at = Instant { cfg, profile, now, workers: false };
+    let at = Given { cfg, profile, now, workers: false };
     let watch = Watch::new(at, 0, 0);
     for s in row {
         if !watch.quiet(s) {
@@ -141,16 +141,16 @@ fn main() {
         let mut told = [0; 3];
         for _ in 0..rounds {
             let mut row = published::make_row(&settings, &line, profile.smaller, ROW);
-            let t = Clock::now();
+            let t = Instant::now();
             told[0] = published::poll_row(black_box(&mut row), l.now, false);
             a = a.min(t.elapsed().as_nanos() as f64);
             drop(row);
             let mut row = vec![l.state; ROW];
-            let t = Clock::now();
+            let t = Instant::now();
             told[1] = poll_row(black_box(&mut row), &cfg, &profile, l.now, &mut log);
             b = b.min(t.elapsed().as_nanos() as f64);
             let mut row = vec![l.state; ROW];
-            let t = Clock::now();
+            let t = Instant::now();
             told[2] = watch_row(black_box(&mut row), &cfg, &profile, l.now, &mut log);
             c = c.min(t.elapsed().as_nanos() as f64);
         }

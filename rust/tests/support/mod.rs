@@ -541,7 +541,7 @@ pub fn answer(b: &Block, line: &str, log: &mut Log) -> (String, Option<State>) {
     let refused = |r: Refusal| (format!("= refused {} {}\n", r.number, r.place), None);
     let mut state = b.state.unwrap_or_default();
     let shown = |s: &State| if b.run { String::new() } else { format!("= {}\n", state_line(s)) };
-    let given = |now, workers| Instant { cfg: &b.cfg, profile: &b.profile, now, workers };
+    let given = |now, workers| Given { cfg: &b.cfg, profile: &b.profile, now, workers };
     match f.word() {
         "open" => {
             let now = f.num();
