@@ -1,11 +1,11 @@
-//! The published Rust with the least around it that lets it compile, and two
+//! The published Rust with the least around it that lets it compile, and three
 //! programs that run it. The files of core/src are put beside this one by
 //! `oracle/build`, unchanged.
 #![allow(dead_code, unused_imports, unused_variables)]
 
 extern crate alloc;
 
-/// Named in a call that no program here makes (`accept`).
+/// A switch of a module that is not published, named by `accept`: off.
 macro_rules! node_fault {
     ($f:ident) => {
         false
@@ -75,4 +75,9 @@ pub fn leaves() {
 /// The program `machine`.
 pub fn machine() {
     proto::rekey::tests::play::main();
+}
+
+/// The program `outside`.
+pub fn outside() {
+    proto::rekey::tests::outside();
 }

@@ -4,22 +4,22 @@ use std::io::{BufRead, Write};
 
 /// The fields of one line, read from the front. A line that does not read
 /// is a mistake of the caller: the program stops and shows it.
-pub(super) struct Fields<'a> {
+pub(crate) struct Fields<'a> {
     line: &'a str,
     rest: std::str::Split<'a, char>,
 }
 
 impl<'a> Fields<'a> {
-    pub(super) fn new(line: &'a str) -> Self {
+    pub(crate) fn new(line: &'a str) -> Self {
         Self { line, rest: line.split(' ') }
     }
 
-    pub(super) fn bad(&self, why: &str) -> ! {
+    pub(crate) fn bad(&self, why: &str) -> ! {
         eprintln!("{why}: {}", self.line);
         std::process::exit(2);
     }
 
-    pub(super) fn word(&mut self) -> &'a str {
+    pub(crate) fn word(&mut self) -> &'a str {
         match self.rest.next() {
             Some(w) if !w.is_empty() => w,
             _ => self.bad("a field is missing"),
@@ -27,7 +27,7 @@ impl<'a> Fields<'a> {
     }
 
     /// A number of any width.
-    pub(super) fn num<T: std::str::FromStr>(&mut self) -> T {
+    pub(crate) fn num<T: std::str::FromStr>(&mut self) -> T {
         let w = self.word();
         match w.parse() {
             Ok(n) => n,
@@ -36,7 +36,7 @@ impl<'a> Fields<'a> {
     }
 
     /// A number, or `-`.
-    pub(super) fn opt<T: std::str::FromStr>(&mut self) -> Option<T> {
+    pub(crate) fn opt<T: std::str::FromStr>(&mut self) -> Option<T> {
         let mut ahead = self.rest.clone();
         if ahead.next() == Some("-") {
             self.rest = ahead;
@@ -45,7 +45,7 @@ impl<'a> Fields<'a> {
         Some(self.num())
     }
 
-    pub(super) fn flag(&mut self) -> bool {
+    pub(crate) fn flag(&mut self) -> bool {
         match self.word() {
             "0" => false,
             "1" => true,
@@ -53,7 +53,7 @@ impl<'a> Fields<'a> {
         }
     }
 
-    pub(super) fn end(&mut self) {
+    pub(crate) fn end(&mut self) {
         if self.rest.next().is_some() {
             self.bad("too many fields");
         }
@@ -61,7 +61,7 @@ impl<'a> Fields<'a> {
 }
 
 /// ` N`, or ` -` for none.
-pub(super) fn put_opt<T: std::fmt::Display>(s: &mut String, v: Option<T>) {
+pub(crate) fn put_opt<T: std::fmt::Display>(s: &mut String, v: Option<T>) {
     match v {
         Some(v) => _ = write!(s, " {v}"),
         None => s.push_str(" -"),
@@ -70,7 +70,7 @@ pub(super) fn put_opt<T: std::fmt::Display>(s: &mut String, v: Option<T>) {
 
 /// Hand each line of standard input that is no answer to `each`, which
 /// appends lines to what is written; none stands for the end of the input.
-pub(super) fn filter(mut each: impl FnMut(Option<&str>, &mut String)) {
+pub(crate) fn filter(mut each: impl FnMut(Option<&str>, &mut String)) {
     let stdin = std::io::stdin().lock();
     let mut stdout = std::io::BufWriter::new(std::io::stdout().lock());
     let mut text = String::new();
@@ -90,21 +90,21 @@ pub(super) fn filter(mut each: impl FnMut(Option<&str>, &mut String)) {
 }
 
 /// Write `text` and empty it; a closed reader ends the program.
-pub(super) fn put(to: &mut impl Write, text: &mut String) {
+pub(crate) fn put(to: &mut impl Write, text: &mut String) {
     if to.write_all(text.as_bytes()).is_err() {
         std::process::exit(1);
     }
     text.clear();
 }
 
-pub(super) fn finish(mut to: impl Write) {
+pub(crate) fn finish(mut to: impl Write) {
     if to.flush().is_err() {
         std::process::exit(1);
     }
 }
 
 /// The arguments without `--fault NAME`, whose switch is turned on.
-pub(super) fn arguments() -> Vec<String> {
+pub(crate) fn arguments() -> Vec<String> {
     let mut rest = Vec::new();
     let mut args = std::env::args().skip(1);
     while let Some(a) = args.next() {
@@ -127,7 +127,7 @@ pub(super) fn arguments() -> Vec<String> {
 }
 
 /// The number in argument `i`.
-pub(super) fn number<T: std::str::FromStr>(args: &[String], i: usize) -> T {
+pub(crate) fn number<T: std::str::FromStr>(args: &[String], i: usize) -> T {
     match args.get(i).and_then(|a| a.parse().ok()) {
         Some(n) => n,
         None => {

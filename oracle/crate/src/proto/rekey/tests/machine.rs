@@ -12,6 +12,9 @@ use crate::testutil::{TestClock, TestInstant, make_node_addr};
 use core::cell::RefCell;
 use core::convert::Infallible;
 
+pub(crate) mod outside;
+pub(crate) mod placing;
+
 /// The private `since`, in milliseconds.
 pub(crate) fn since_ms(now: u64, t: u64) -> u64 {
     millis(since(TestInstant(now), TestInstant(t)))
@@ -158,15 +161,19 @@ pub(crate) trait Numbers:
         Route = u64,
         Ext = u64,
         LocalKeys = Local,
-        Msg1 = Infallible,
         Done = Infallible,
     >
 {
+    /// The event of a first message that is handed back.
+    fn replaced(msg1: &Self::Msg1) -> Event;
 }
 
 impl<const M: u8, const A: bool, const S: bool, const X: bool, const F: usize> Numbers
     for Prof<M, A, S, X, F>
 {
+    fn replaced(msg1: &Infallible) -> Event {
+        match *msg1 {}
+    }
 }
 
 type Machine<P> = Rekey<P, TestClock>;
@@ -504,7 +511,7 @@ fn event<P: Numbers>(o: &Output<P>) -> Event {
             ("peerrestarted", &[Some(u64::from_le_bytes(*epoch))])
         }
         Output::Rekeyed { role } => ("rekeyed", &[Some(*role as u64)]),
-        Output::ReplaceRequested { tok } => match *tok.get() {},
+        Output::ReplaceRequested { tok } => return P::replaced(tok.get()),
         Output::Reject(reason) => ("reject", &[Some(*reason as u64)]),
         Output::Abandoned(cause) => {
             let cause = match cause {

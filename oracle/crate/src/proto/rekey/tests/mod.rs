@@ -1,7 +1,13 @@
 //! The programs over the published files, and what they share.
 pub(crate) mod leaves;
-mod lines;
+pub(crate) mod lines;
 pub(crate) mod play;
-mod random;
+pub(crate) mod random;
 pub(crate) mod settings;
 pub(crate) mod state;
+pub(crate) mod table;
+
+/// The program `outside`.
+pub(crate) fn outside() {
+    super::machine::oracle::outside::main();
+}

@@ -359,7 +359,7 @@ fn answer(
 }
 
 /// The state that an accepted call leaves, of those that can leave one.
-pub(super) fn leaves_behind(cfg: &Cfg, profile: &Flags, s: &State, call: &Call) -> Option<State> {
+pub(crate) fn leaves_behind(cfg: &Cfg, profile: &Flags, s: &State, call: &Call) -> Option<State> {
     answer(cfg, profile, Some(s), call, false, &mut String::new())
 }
 

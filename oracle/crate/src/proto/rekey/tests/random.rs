@@ -932,3 +932,11 @@ pub(super) fn block(kind: &str, seed: u64, block: u64, text: &mut String) -> boo
     }
     true
 }
+
+/// The settings, the state and the instant that block number `block` of the
+/// kinds single and runs begins with.
+pub(crate) fn begins(seed: u64, block: u64) -> (Cfg, State, u64) {
+    let mut g = Gen::new(seed, block);
+    let s = g.state();
+    (g.cfg, s, g.now)
+}

@@ -277,7 +277,7 @@ impl Ep {
 
 impl State {
     /// What stands behind the word `state`.
-    pub(super) fn read(f: &mut Fields<'_>) -> Self {
+    pub(crate) fn read(f: &mut Fields<'_>) -> Self {
         expect(f, "mem");
         let mem = Mem {
             peer_epoch: f.opt(),
