@@ -17,11 +17,12 @@ use Rattle.refusal.specs.declared.Refused.{Refused}
 use Rattle.answer.specs.declared.Answer.{Answer}
 use Rattle.answer.specs.Laws.{written-all}
 use Rattle.answer.specs.Answers.{Answers, backWith, takenWith, answers-back, answers-on}
+use Rattle.frame_hear.specs.Hear.{givenOf}
 use Rattle.frame_slots.specs.declared.FrameProof.{FrameProof}
 use Rattle.frame_slots.specs.Frame.{FrameStep, frameOf}
 use Rattle.frame_slots.specs.Most.{frame-most}
 use Rattle.frame.specs.Exact.{FrameExact, frame-exact}
-use Rattle.frame.specs.Frames.{frameRefused, givenOf, heard, frameAnswer, frameTarget}
+use Rattle.frame.specs.Frames.{frameRefused, heard, frameAnswer, frameTarget}
 
 module _ (s : State) (cfg : Config) (profile : Profile) (time : ℕ) (workers : Bool) (spread : ℤ) (p : FrameProof) (body : ℕ) (source target : List ℕ) where
   abbrev f : FrameStep

@@ -19,9 +19,10 @@ use Rattle.law_exact.specs.Words.{GivenOk, SpreadOk, SpreadOut, reads-spread}
 use Rattle.law_exact.specs.Numbers.{GivenNumbers, StateNumbers, LinkOk, Placed, Linked, anyPlace, above-pick, here, past, and-then, linked}
 use Rattle.answer.specs.Outcome.{Outcome}
 use Rattle.answer.specs.Laws.{by-tests}
+use Rattle.frame_hear.specs.Hear.{givenOf}
 use Rattle.frame_slots.specs.declared.FrameProof.{FrameProof}
 use Rattle.frame_slots.specs.Frame.{slotTag, frameOf}
-use Rattle.frame.specs.Frames.{slotEmpty, otherTag, heardTests, frameRefused, givenOf, heard, frameAnswer, frameTarget}
+use Rattle.frame.specs.Frames.{slotEmpty, otherTag, heardTests, frameRefused, heard, frameAnswer, frameTarget}
 use Rattle.frame.specs.Laws.{frame-back-leaves}
 
 -- 1 to 9 pass

@@ -9,10 +9,10 @@ use Rattle.settings.specs.declared.Config.{Config}
 use Rattle.numbers.specs.Numbers.{refusedSlot, refusedTag}
 use Rattle.state.specs.declared.State.{State}
 use Rattle.state.specs.declared.Profile.{Profile}
-use Rattle.state.specs.declared.Given.{Given}
 use Rattle.refusal.specs.declared.Refused.{Refused}
 use Rattle.refusal.specs.Refusal.{Test, first, by, frameTests}
 use Rattle.answer.specs.Outcome.{Outcome, done, outcomeBy}
+use Rattle.frame_hear.specs.Hear.{givenOf}
 use Rattle.frame_slots.specs.declared.FrameProof.{FrameProof}
 use Rattle.frame_slots.specs.Frame.{FrameStep, slotTag, frameOf}
 
@@ -31,10 +31,6 @@ heardTests s cfg profile spread slot tag =
 
 unfoldable pub frameRefused : State → Config → Profile → ℤ → ℕ → ℕ → Refused
 frameRefused s cfg profile spread slot tag = first (heardTests s cfg profile spread slot tag)
-
--- "A frame takes what a poll takes except the extra": it is 0, and no row of a frame reads it
-unfoldable pub givenOf : Config → Profile → ℕ → Bool → Given
-givenOf cfg profile time workers = record { cfg = cfg; profile = profile; now = time; workers = workers; extra = 0 }
 
 -- what an accepted frame leaves and tells
 abbrev pub heard : FrameStep → Outcome

@@ -17,10 +17,11 @@ use Rattle.refusal.specs.Refusal.{first, by, numbered, givenTests, stateTests, 
 use Rattle.refusal.specs.First.{rising, first-append}
 use Rattle.answer.specs.Outcome.{Outcome}
 use Rattle.answer.specs.Laws.{by-taken, by-nonzero, by-either}
+use Rattle.frame_hear.specs.Hear.{givenOf}
 use Rattle.frame_slots.specs.declared.FrameProof.{FrameProof}
 use Rattle.frame_slots.specs.Frame.{slotTag, frameBack, frameOf}
 use Rattle.frame_slots.specs.Most.{frame-most}
-use Rattle.frame.specs.Frames.{slotEmpty, otherTag, heardTests, frameRefused, givenOf, heard, frameAnswer, frameTarget}
+use Rattle.frame.specs.Frames.{slotEmpty, otherTag, heardTests, frameRefused, heard, frameAnswer, frameTarget}
 
 -- ---- the refusals
 

@@ -2,12 +2,11 @@
 ghost use mathlib.Core.Path.{_≡_};
 ghost use Rattle.frame.specs.Exact.{FrameExact};
 ghost use Rattle.answer.specs.Answers.{Answers};
-ghost use Rattle.frame.specs.Frames.{frameRefused, givenOf, frameAnswer, frameTarget};
+ghost use Rattle.frame.specs.Frames.{frameRefused, frameAnswer, frameTarget};
 use answer::Answer;
 use frame_slots::FrameProof;
 use refusal::Refused;
 use settings::Config;
-use state::Given;
 use state::Profile;
 use state::State;
 
@@ -23,19 +22,6 @@ fn send_back(s: State, cfg: Config, profile: Profile, spread: i32, slot: u8, tag
     Refused {
         number: number,
         place: 0,
-    }
-}
-
-// What a frame is given beside the state. No row of a frame reads the extra.
-fn gather(cfg: Config, profile: Profile, time: u64, workers: bool) -> Given
-    ensures { λ r. ⌜ r ≡ givenOf cfg profile time workers ⌝ }
-{
-    Given {
-        cfg: cfg,
-        profile: profile,
-        now: time,
-        workers: workers,
-        extra: 0,
     }
 }
 
@@ -63,7 +49,7 @@ pub fn frame(
     if back.number != 0 {
         return answer::sent_back(back, s);
     }
-    let g = gather(cfg, profile, time, workers);
+    let g = frame_hear::given(cfg, profile, time, workers);
     let f = frame_slots::frame_accepted(s, g, spread, p, body, source, target, log, 0);
     answer::finish(f.state, f.len, 0)
 }

@@ -10,6 +10,7 @@ use Rattle.numbers.specs.Numbers.{cyclePendI, abandonReverted}
 use Rattle.epoch.specs.Put.{putEp}
 use Rattle.cycle.specs.Kind.{isInit, isPendI, isPendR}
 use Rattle.state.specs.declared.State.{State}
+use Rattle.state.specs.declared.Profile.{Profile}
 use Rattle.state.specs.declared.Given.{Given}
 use Rattle.state.specs.Parts.{putMem, putCur, putCycle}
 use Rattle.events.specs.Events.{Event, Prompt, Reverted}
@@ -19,6 +20,10 @@ use Rattle.grace.specs.Grace.{grace}
 use Rattle.cutover.specs.Cutover.{heardFrame}
 use Rattle.frame_evidence.specs.Evidence.{blindTo, movesNow, heardCands, shortened, promptedNow, stayedNow, heardEpoch, revertedPend, heardAny, onlyAssumed, confirming}
 use Rattle.frame_hear.specs.declared.Heard.{Heard}
+
+-- "what a poll takes except the extra": it is 0, and no row of hearing reads it
+unfoldable pub givenOf : Config → Profile → ℕ → Bool → Given
+givenOf cfg profile time workers = record { cfg = cfg; profile = profile; now = time; workers = workers; extra = 0 }
 
 -- what hearing leaves of the state
 pub record HearStep : Type 0 where

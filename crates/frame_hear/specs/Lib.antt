@@ -1,2 +1,3 @@
 pub mod Hear
 pub mod Laws
+pub mod Most

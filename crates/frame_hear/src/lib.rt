@@ -1,13 +1,28 @@
 // What an authenticated frame tells of the peer: `heard_current`, `heard_previous` and `revert` of
 // machine.rs, on the whole state.
+ghost use mathlib.Core.Path.{_≡_};
 ghost use mathlib.Core.List.{[], _∷_};
 ghost use Rattle.events.specs.Events.{Reverted, Prompt};
 ghost use Rattle.events.specs.Log.{Appends};
-ghost use Rattle.frame_hear.specs.Hear.{Did, hearing, heardCurrent, revertOf, assumedHeard, confirmingHeard, heardPrevious};
+ghost use Rattle.frame_hear.specs.Hear.{givenOf, Did, hearing, heardCurrent, revertOf, assumedHeard, confirmingHeard, heardPrevious};
 use epoch::MayEpoch;
 use settings::Config;
 use state::Given;
+use state::Profile;
 use state::State;
+
+// What a call that hears is given beside the state. No row of it reads the extra.
+pub fn given(cfg: Config, profile: Profile, time: u64, workers: bool) -> Given
+    ensures { λ r. ⌜ r ≡ givenOf cfg profile time workers ⌝ }
+{
+    Given {
+        cfg: cfg,
+        profile: profile,
+        now: time,
+        workers: workers,
+        extra: 0,
+    }
+}
 
 // What hearing leaves: the state, and how long the log is.
 pub struct Heard {

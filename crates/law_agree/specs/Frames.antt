@@ -21,9 +21,10 @@ use Rattle.refusal.specs.Refusal.{Test, first, by, numbered, accepted, spreadBa
 use Rattle.law_refusal.specs.Sound.{Sound}
 use Rattle.time.specs.Pick.{and-left}
 use Rattle.frame_deliver.specs.Deliver.{deliverOut}
+use Rattle.frame_hear.specs.Hear.{givenOf}
 use Rattle.frame_slots.specs.declared.FrameProof.{FrameProof}
 use Rattle.frame_slots.specs.Frame.{FrameStep, pendingTag, slotTag, endedOut, putK, pendOf, pendingFrame, currentFrame, previousFrame, slotFrame, frameOf}
-use Rattle.frame.specs.Frames.{slotEmpty, otherTag, heardTests, frameRefused, givenOf, frameAnswer, frameTarget}
+use Rattle.frame.specs.Frames.{slotEmpty, otherTag, heardTests, frameRefused, frameAnswer, frameTarget}
 use Rattle.law_frame.specs.Frames.{pending-role, slot-pending, slot-previous, taken-held}
 use Rattle.law_alike.specs.Optional.{Same, when, picked, related, some-when}
 use Rattle.law_alike.specs.Parts.{AlikeEpoch, epoch-fields}

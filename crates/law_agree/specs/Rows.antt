@@ -86,7 +86,7 @@ pub own-is : (c : Cycle) (tag : ℕ) → isOwn c tag ≡ true → isPendI (c .ki
 unfolding isOwn isTag
 own-is c tag e = and-left _ _ e
 
-peers-alike : {c d : Cycle} → AlikeCycle c d → (tag : ℕ) → isPeers c tag ≡ isPeers d tag
+pub peers-alike : {c d : Cycle} → AlikeCycle c d → (tag : ℕ) → isPeers c tag ≡ isPeers d tag
 unfolding isPeers isTag
 peers-alike h tag = anded (h .peers) (λ q. ap (λ n. eqb n tag) (epoch-fields (h .pendr q .ep) .tag))
 
@@ -94,11 +94,11 @@ peers-is : (c : Cycle) (tag : ℕ) → isPeers c tag ≡ true → isPendR (c .ki
 unfolding isPeers isTag
 peers-is c tag e = and-left _ _ e
 
-cur-tag : {c d : MayEpoch} → Same curView c d → (tag : ℕ) → isTag (c .some) (c .ep .tag) tag ≡ isTag (d .some) (d .ep .tag) tag
+pub cur-tag : {c d : MayEpoch} → Same curView c d → (tag : ℕ) → isTag (c .some) (c .ep .tag) tag ≡ isTag (d .some) (d .ep .tag) tag
 unfolding isTag
 cur-tag e tag = anded (cur-some e) (λ q. ap (λ n. eqb n tag) (cur-ep e q .tag))
 
-tag-is : (b : Bool) (held tag : ℕ) → isTag b held tag ≡ true → b ≡ true
+pub tag-is : (b : Bool) (held tag : ℕ) → isTag b held tag ≡ true → b ≡ true
 unfolding isTag
 tag-is b held tag e = and-left _ _ e
 

@@ -49,7 +49,7 @@ module _ {s t : State} (a : Alike s t) where
   pub with-cur : {c d : MayEpoch} → Same curView c d → Alike (putCur s c) (putCur t d)
   with-cur e = record { mem = a .mem; cur = e; drain = a .drain; cycle = a .cycle; cands = a .cands }
 
-  with-drain : {c d : Drain} → Same drainView c d → Alike (putDrain s c) (putDrain t d)
+  pub with-drain : {c d : Drain} → Same drainView c d → Alike (putDrain s c) (putDrain t d)
   with-drain e = record { mem = a .mem; cur = a .cur; drain = e; cycle = a .cycle; cands = a .cands }
 
   pub with-cycle : {c d : Cycle} → Same cycleView c d → Alike (putCycle s c) (putCycle t d)

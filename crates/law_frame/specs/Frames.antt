@@ -21,10 +21,11 @@ use Rattle.refusal.specs.declared.Refused.{Refused}
 use Rattle.refusal.specs.Refusal.{numbered, beforeFrame, stateBack}
 use Rattle.law_refusal.specs.Sound.{Within, EpochSound, Sound, sound, sounding}
 use Rattle.cutover.specs.declared.Pend.{Pend}
+use Rattle.frame_hear.specs.Hear.{givenOf}
 use Rattle.frame_slots.specs.declared.FrameProof.{FrameProof}
 use Rattle.frame_slots.specs.Frame.{FrameStep, pendingTag, slotTag, frameBack, putK, pendOf, pendingFrame, currentFrame, previousFrame, slotFrame, frameOf}
 use Rattle.answer.specs.Laws.{by-test as outcome·by-test}
-use Rattle.frame.specs.Frames.{frameRefused, givenOf, heard, frameAnswer}
+use Rattle.frame.specs.Frames.{frameRefused, heard, frameAnswer}
 use Rattle.frame.specs.Laws.{frame-refused}
 use Rattle.law_sound.specs.Cutover.{cut-sound}
 use Rattle.law_early.specs.Early.{Early}

@@ -22,28 +22,28 @@ use Rattle.time.specs.Pick.{and, and-left}
 use Rattle.cutover.specs.Cutover.{cutoverOf}
 use Rattle.poll_close.specs.Closing.{waitsFor, sealing}
 use Rattle.frame_evidence.specs.Evidence.{EpochStep, blindTo, promptDue, heardFirst, movedFirst, promptedNow, heardEpoch, unassumed, revertedPend, heardAny, onlyAssumed, confirming}
-use Rattle.frame_hear.specs.Hear.{HearStep, hearing, heardCurrent, revertOf, assumedHeard, confirmingHeard, heardPrevious}
+use Rattle.frame_hear.specs.Hear.{givenOf, HearStep, hearing, heardCurrent, revertOf, assumedHeard, confirmingHeard, heardPrevious}
 use Rattle.frame_slots.specs.declared.FrameProof.{FrameProof}
 use Rattle.frame_slots.specs.Frame.{FrameStep, pendOf, pendingFrame, currentFrame, previousFrame, slotFrame, frameOf}
 use Rattle.answer.specs.Outcome.{Outcome}
 use Rattle.answer.specs.Laws.{by-either}
-use Rattle.frame.specs.Frames.{frameRefused, givenOf, heard, frameAnswer}
+use Rattle.frame.specs.Frames.{frameRefused, heard, frameAnswer}
 use Rattle.law_prompts.specs.Stays.{AllStay, none-stay, both-stay, more-stay, current-stays, pending-stays, abandoned-stay, ended-stay, delivered-stay, given-up-stay, announced-stay, prompted-stay}
 
 -- ---- what stays, by the state that is left
 
 -- the current epoch's tag
-abbrev current : State → When
+abbrev pub current : State → When
 current s = given (s .cur .some) (s .cur .ep .tag)
 
 -- the tag of the pending epoch that waits for evidence
-abbrev waiting : State → When
+abbrev pub waiting : State → When
 waiting s = given (waitsFor (s .cycle .kind) (s .cycle .pendi .wait)) (s .cycle .pendi .ep .tag)
 
-abbrev Keeps : State → List Event → Type 0
+abbrev pub Keeps : State → List Event → Type 0
 Keeps s l = AllStay (current s) (waiting s) l
 
-abbrev HearKeeps : HearStep → Type 0
+abbrev pub HearKeeps : HearStep → Type 0
 HearKeeps t = Keeps (t .state) (t .out)
 
 abbrev FrameKeeps : FrameStep → Type 0
@@ -62,7 +62,7 @@ hearing-keeps s g k blind =
     let e = movedFirst (heardFirst (s .cur .ep) (g .now)) blind (g .now) in
     prompted-stay _ _ e blind (g .now) (λ q. ap at (prompted-tag e blind (g .now)))
 
-current-keeps : (s : State) (g : Given) (k probe : Bool) → HearKeeps (heardCurrent s g k probe)
+pub current-keeps : (s : State) (g : Given) (k probe : Bool) → HearKeeps (heardCurrent s g k probe)
 unfolding heardCurrent
 current-keeps s g k probe =
     of-choice HearKeeps (s .cur .some) _ _
@@ -93,7 +93,7 @@ confirming-keeps s g =
     prompted-stay _ _ (s .cur .ep) asks (g .now)
     (λ q. ap₂ given (and-left (s .cur .some) _ (and-left _ _ q)) (prompted-tag (s .cur .ep) asks (g .now)))
 
-previous-keeps : (s : State) (g : Given) → HearKeeps (heardPrevious s g)
+pub previous-keeps : (s : State) (g : Given) → HearKeeps (heardPrevious s g)
 unfolding heardPrevious
 previous-keeps s g =
     let t = putMem s (heardAny (s .mem) (g .now)) in

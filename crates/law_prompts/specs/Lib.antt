@@ -1,2 +1,3 @@
 pub mod Stays
 pub mod Frames
+pub mod Notices

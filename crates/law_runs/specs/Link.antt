@@ -25,18 +25,29 @@ use Rattle.poll.specs.Poll.{pollOf}
 use Rattle.law_runs.specs.Runs.{Kind, poll, named, Out, Machine, accepted, Demand3}
 use Rattle.law_runs.specs.Served.{Name, Buffers, noBuffers, stepOf, Served}
 use Rattle.law_runs.specs.Others.{frameServed, replyServed, sentServed}
+use Rattle.law_runs.specs.Notices.{workerServed, delegatedServed, undelegatedServed, dataSentServed, pathServed}
 
--- a call that is no poll, with its instant and its own settings, profile, worker flag, draw, proof and
--- buffers
+-- a call that is no poll, with its instant and its own settings, profile, worker flag, draw, proof,
+-- buffers and fields
 pub data Other : Type 0 where
   aFrame : (cfg : Config) (p : Profile) (now : ℕ) (workers : Bool) (spread : ℤ) (proof : FrameProof) (body : ℕ) (source target : List ℕ) → Other
   aReply : (cfg : Config) (p : Profile) (now : ℕ) (r : StartReply) → Other
   aSent : (now count : ℕ) → Other
+  aWorker : (cfg : Config) (p : Profile) (now : ℕ) (workers : Bool) (spread : ℤ) (tag : ℕ) (k : Bool) (counter : ℕ) → Other
+  aDelegated : (cfg : Config) (p : Profile) (now : ℕ) (workers : Bool) (spread : ℤ) (tag : ℕ) → Other
+  anUndelegated : (cfg : Config) (p : Profile) (now : ℕ) (workers : Bool) (spread : ℤ) (tag : ℕ) → Other
+  aDataSent : (cfg : Config) (p : Profile) (now : ℕ) (workers : Bool) (spread : ℤ) → Other
+  aPath : (cfg : Config) (p : Profile) (now : ℕ) (workers : Bool) (spread : ℤ) (reachable : Bool) (srtt : When) → Other
 
 abbrev pub served : Other → Served
 served (aFrame cfg p now workers spread proof body source target) = frameServed cfg p now workers spread proof body source target
 served (aReply cfg p now r) = replyServed cfg p now r
 served (aSent now count) = sentServed now count
+served (aWorker cfg p now workers spread tag k counter) = workerServed cfg p now workers spread tag k counter
+served (aDelegated cfg p now workers spread tag) = delegatedServed cfg p now workers spread tag
+served (anUndelegated cfg p now workers spread tag) = undelegatedServed cfg p now workers spread tag
+served (aDataSent cfg p now workers spread) = dataSentServed cfg p now workers spread
+served (aPath cfg p now workers spread reachable srtt) = pathServed cfg p now workers spread reachable srtt
 
 pub data Call : Type 0 where
   aPoll : (cfg : Config) (p : Profile) (now : ℕ) (workers : Bool) (spread : ℤ) (extra : ℕ) → Call

@@ -1,5 +1,5 @@
--- The calls of a run that are no polls, each with its laws. The steps are the definitions that the calls'
--- own promises name.
+-- The calls of a run that are no polls, each with its laws; notices are in Notices.antt. The steps are the
+-- definitions that the calls' own promises name.
 use Prim.Native.Nat.{ℕ, zero, suc}
 use mathlib.Core.Bool.{Bool, false, true≢false}
 use mathlib.Core.Path.{_≡_, refl, ap}

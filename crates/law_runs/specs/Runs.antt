@@ -6,8 +6,8 @@ use mathlib.Core.Option.{Option, none, some}
 use mathlib.Core.Logic.{_↔_}
 use Prim.Native.Nat.{ℕ, zero, suc, _≤_, _<_}
 
--- "A run takes a list of polls, frames, start replies and told sent counts": a call is a poll, or another
--- one with its name
+-- "A run takes a list of polls, frames, start replies and told sent counts", and, by request 1, notices: a
+-- call is a poll, or another one with its name
 pub data Kind (Name : Type 0) : Type 0 where
   poll : Kind Name
   named : Name → Kind Name
@@ -181,6 +181,8 @@ module _ (M : Machine) where
   -- any instant of the list. The clock never goes back; polls strictly rise. In every such run, with
   -- workers off and an epoch, attempt or candidate held, an absent wake, or one later than an accepted
   -- poll, taken for that poll's state, settings and profile, marks a poll with none of the four.
+  --
+  -- By request 1 the list may have notices too, which count among the calls that both runs make.
   --
   -- What is proved is more: only the wake clause (`wakes`) supposes an accepted first state and its starts.
   -- End states are compared by what stands in them (`exactly`), and are equal as records too (`records`).

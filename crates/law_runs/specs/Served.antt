@@ -1,6 +1,6 @@
 -- A call of a run that is no poll: what a run needs of it, and the laws by which demand 3 holds of every
--- list that has it. A further call brings a value of `Served` (Others.antt), a constructor and a clause
--- (Link.antt).
+-- list that has it. A further call brings a value of `Served` (Others.antt, Notices.antt), a constructor and a
+-- clause (Link.antt).
 use Prim.Native.Nat.{ℕ, zero, suc, _≤_}
 use mathlib.Core.Bool.{false}
 use mathlib.Core.Path.{_≡_}
@@ -16,7 +16,7 @@ use Rattle.law_runs.specs.Runs.{Answer, back, gave, Out, goesOn}
 
 -- the names of such calls, as the log has them
 pub data Name : Type 0 where
-  frame reply sent : Name
+  frame reply sent worker delegated undelegated datasent path : Name
 
 -- the bytes of a frame's two buffers; other calls have none
 pub record Buffers : Type 0 where

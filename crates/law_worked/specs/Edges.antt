@@ -27,10 +27,10 @@ use Rattle.poll_pass.specs.Pass.{runItem, passOf}
 use Rattle.poll_loop.specs.Passes.{passesOf, threePasses}
 use Rattle.frame_deliver.specs.Deliver.{reaches, deliverOut}
 use Rattle.frame_evidence.specs.Evidence.{blindTo, promptDue, movesNow, heardFirst, movedFirst, promptedNow, heardEpoch}
-use Rattle.frame_hear.specs.Hear.{hearing, heardCurrent}
+use Rattle.frame_hear.specs.Hear.{givenOf, hearing, heardCurrent}
 use Rattle.frame_slots.specs.Frame.{slotTag, currentFrame, slotFrame, frameOf}
 use Rattle.answer.specs.Outcome.{Outcome, outcomeBy}
-use Rattle.frame.specs.Frames.{heardTests, frameRefused, givenOf, frameAnswer}
+use Rattle.frame.specs.Frames.{heardTests, frameRefused, frameAnswer}
 use Rattle.call_reply.specs.Reply.{repliedTests, replyRefused, replyOf}
 use Rattle.call_open.specs.Blank.{noIndex, noFinal, noRepeats, noDrain, idle, noCandidates}
 use Rattle.call_open.specs.Open.{newMemory, firstEpoch, alone, freshState}

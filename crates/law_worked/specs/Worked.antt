@@ -65,9 +65,9 @@ use Rattle.answer.specs.Outcome.{outcomeBy}
 use Rattle.poll.specs.Poll.{acceptedPoll, pollOf}
 use Rattle.frame_deliver.specs.Deliver.{reaches, deliverOut, deliverInto}
 use Rattle.frame_evidence.specs.Evidence.{blindTo, promptDue, staying, movesNow, heardFirst, heardCands, movedFirst, shortened, promptedNow, stayedNow, heardEpoch, unassumed, revertedPend, heardAny, onlyAssumed, confirming}
-use Rattle.frame_hear.specs.Hear.{hearing, heardCurrent, revertOf, assumedHeard, confirmingHeard, heardPrevious}
+use Rattle.frame_hear.specs.Hear.{givenOf, hearing, heardCurrent, revertOf, assumedHeard, confirmingHeard, heardPrevious}
 use Rattle.frame_slots.specs.Frame.{pendingTag, slotTag, endedOut, pendOf, pendingFrame, currentFrame, previousFrame, slotFrame, frameOf}
-use Rattle.frame.specs.Frames.{heardTests, frameRefused, givenOf, frameAnswer, frameTarget}
+use Rattle.frame.specs.Frames.{heardTests, frameRefused, frameAnswer, frameTarget}
 use Rattle.call_open.specs.Blank.{noLadder, noFinal, noRepeats, noEpoch, noDrain, noAttempt, noPendI, noPendR, idle, noCandidates}
 use Rattle.call_sent.specs.Told.{belowHeld, toldTests, toldNumber, toldState, toldOf}
 
@@ -78,7 +78,7 @@ abbrev profile : Profile
 profile = record { messages = 2; «at_proof» = false; silence = false; smaller = false; floor = 0 }
 
 -- an epoch of a tag, begun at instant 0, with a lease or none
-abbrev epoch : ℕ → Index → Epoch
+abbrev pub epoch : ℕ → Index → Epoch
 epoch tag lease =
     record {
       tag = tag;
@@ -103,7 +103,7 @@ epoch tag lease =
 
 -- a current epoch of tag 1 without a lease, and a responder's pending one of tag 2 with lease 9, until
 -- 100 s
-abbrev pair : State
+abbrev pub pair : State
 pair =
     record {
       mem = record {
@@ -170,7 +170,7 @@ calls =
 -- ---- the hypotheses
 
 -- each instant is above the one before it
-abbrev Ascends : ℕ → List Call → Type 0
+abbrev pub Ascends : ℕ → List Call → Type 0
 Ascends t [] = Unit {0}
 Ascends t (c ∷ cs) = (t < link .atOf c) × Ascends (link .atOf c) cs
 
@@ -178,7 +178,7 @@ after : (c : Call) (t : ℕ) (cs : List Call) → link .atOf c ≤ t → Ascends
 after c t [] h a = tt
 after c t (d ∷ ds) h a = (omega (arith, h, a .0), λ p q. omega (arith, h, a .0), after c (link .atOf d) ds (omega (arith, h, a .0)) (a .1))
 
-rises : (t : ℕ) (cs : List Call) → Ascends t cs → Rises link cs
+pub rises : (t : ℕ) (cs : List Call) → Ascends t cs → Rises link cs
 rises t [] a = tt
 rises t (c ∷ cs) a = (after c (link .atOf c) cs (omega arith) (a .1), rises (link .atOf c) cs (a .1))
 
@@ -192,9 +192,10 @@ begun : (t : ℕ) → Early pair t
 unfolding noDrain
 begun t = record { link = omega arith; cutover = λ e. absurd (false≢true e); current = λ e. omega arith; own = λ e. absurd (false≢true e); peers = λ e. omega arith; drained = λ e. absurd (false≢true e) }
 
-early : (cs : List Call) → EarlyFor link pair cs
-early [] = tt
-early (c ∷ cs) = (begun (link .atOf c), early cs)
+-- a state whose starts are not after any instant
+pub early : (s : State) → ((t : ℕ) → Early s t) → (cs : List Call) → EarlyFor link s cs
+early s b [] = tt
+early s b (c ∷ cs) = (b (link .atOf c), early s b cs)
 
 -- ---- what one sees
 
@@ -300,29 +301,29 @@ same = two-runs .holds .exactly pair calls idle-polls in-order .1 (seen .idle)
 pub same-record : endOf link pair calls ≡ endOf link pair (second link idle-polls)
 same-record = two-runs .holds .records pair calls idle-polls (seen .idle)
 
--- a choice with a poll that was not quiet shows in the log
-shows : (d : LeftOut link calls) → (AllQuiet link pair d → ⊥) → logOf link pair calls ≡ logOf link pair (second link d) → ⊥
-shows d h p = h (two-runs .holds .logs pair calls d in-order p)
+-- a choice with a poll that was not quiet shows in the log, of every run
+pub shows : (s : State) (cs : List Call) → Rises link cs → (d : LeftOut link cs) → (AllQuiet link s d → ⊥) → logOf link s cs ≡ logOf link s (second link d) → ⊥
+shows s cs r d h p = h (two-runs .holds .logs s cs d r p)
 
 -- so none of the others may: not the poll with a due item, ..
 pub due-shows : logOf link pair calls ≡ logOf link pair (second link due-poll) → ⊥
-due-shows = shows due-poll (λ a. true≢false (sym (a .0) ∙ seen .due .1))
+due-shows = shows pair calls in-order due-poll (λ a. true≢false (sym (a .0) ∙ seen .due .1))
 
 -- .. a start called for, ..
 pub start-shows : logOf link pair calls ≡ logOf link pair (second link start-poll) → ⊥
-start-shows = shows start-poll (λ a. true≢false (sym (a .0) ∙ seen .start .1))
+start-shows = shows pair calls in-order start-poll (λ a. true≢false (sym (a .0) ∙ seen .start .1))
 
 -- .. a teardown standing, ..
 pub teardown-shows : logOf link pair calls ≡ logOf link pair (second link teardown-poll) → ⊥
-teardown-shows = shows teardown-poll (λ a. true≢false (sym (a .0) ∙ seen .teardown .1))
+teardown-shows = shows pair calls in-order teardown-poll (λ a. true≢false (sym (a .0) ∙ seen .teardown .1))
 
 -- .. an offer owed, ..
 pub offer-shows : logOf link pair calls ≡ logOf link pair (second link offer-poll) → ⊥
-offer-shows = shows offer-poll (λ a. true≢false (sym (a .0) ∙ seen .offer .1))
+offer-shows = shows pair calls in-order offer-poll (λ a. true≢false (sym (a .0) ∙ seen .offer .1))
 
 -- .. nor the refused one
 pub refused-shows : logOf link pair calls ≡ logOf link pair (second link refused-poll) → ⊥
-refused-shows = shows refused-poll (λ a. true≢false (sym (a .0) ∙ seen .refused))
+refused-shows = shows pair calls in-order refused-poll (λ a. true≢false (sym (a .0) ∙ seen .refused))
 
 -- the wake clause at the first poll: the wake is later, so the poll is quiet
 pub sleeps : quiet link (pollAt 1500) pair ≡ true
@@ -330,7 +331,7 @@ sleeps =
     two-runs .holds .wakes pair [] (pollAt 1500) (heardPending ∷ [])
     (seen .passes)
     (rises 0 (pollAt 1500 ∷ heardPending ∷ []) (omega arith, (omega arith, tt)))
-    (early (pollAt 1500 ∷ heardPending ∷ []))
+    (early pair begun (pollAt 1500 ∷ heardPending ∷ []))
     refl (seen .goes-on) refl (seen .something) (subst (λ w. Late w 1500) (sym (seen .wake)) (omega arith))
 
 -- ---- what stands decides

@@ -14,6 +14,8 @@ ghost use Rattle.call_read.specs.Read.{wokeOf, statusOf};
 ghost use Rattle.link_sample.specs.Sample.{wholeOf, valuesOf, flagsOf, besideOf, proofOf, answerOf};
 ghost use Rattle.frame.specs.Frames.{frameAnswer, frameTarget};
 ghost use Rattle.frame.specs.Exact.{FrameExact};
+ghost use Rattle.notice.specs.Notices.{workerAnswer, delegatedAnswer, undelegatedAnswer, dataSentAnswer, pathAnswer};
+ghost use Rattle.notice.specs.Exact.{NoticeExact};
 ghost use Rattle.call_reply.specs.Reply.{replyOf};
 ghost use Rattle.call_reply.specs.Exact.{ReplyExact};
 ghost use Rattle.poll.specs.Poll.{pollOf};
@@ -31,6 +33,7 @@ use settings::Config;
 use state::Given;
 use state::Profile;
 use state::State;
+use time::When;
 
 // The place of the first check that refuses the settings, from 1; 0 where they are accepted.
 #[no_mangle]
@@ -155,6 +158,103 @@ pub extern "C" fn siklyavon_reply(
     ensures runs { λ a. ⌜ TwoRuns ⌝ }
 {
     call_reply::reply(s, cfg, profile, time, r)
+}
+
+// A decrypt worker authenticated a frame under `tag`, with that key bit and counter.
+#[no_mangle]
+pub extern "C" fn siklyavon_worker(
+    s: State,
+    cfg: Config,
+    p: Profile,
+    time: u64,
+    workers: bool,
+    spread: i32,
+    tag: u64,
+    k: bool,
+    counter: u64,
+    log: &mut [u64; 768],
+) -> Answer
+    ensures worker { λ r. ⌜ Answers (workerAnswer s cfg p time workers spread tag k counter) r (now (log .entry)) (now (log .exit)) ⌝ }
+    ensures exact { λ r. ⌜ NoticeExact s cfg p spread (workerAnswer s cfg p time workers spread tag k counter) ⌝ }
+    ensures runs { λ r. ⌜ TwoRuns ⌝ }
+{
+    notice::worker(s, cfg, p, time, workers, spread, tag, k, counter, log)
+}
+
+// A decrypt worker accepted the receive copy of the epoch of `tag`.
+#[no_mangle]
+pub extern "C" fn siklyavon_delegated(
+    s: State,
+    cfg: Config,
+    p: Profile,
+    time: u64,
+    workers: bool,
+    spread: i32,
+    tag: u64,
+    log: &mut [u64; 768],
+) -> Answer
+    ensures delegated { λ r. ⌜ Answers (delegatedAnswer s cfg p spread tag) r (now (log .entry)) (now (log .exit)) ⌝ }
+    ensures exact { λ r. ⌜ NoticeExact s cfg p spread (delegatedAnswer s cfg p spread tag) ⌝ }
+    ensures runs { λ r. ⌜ TwoRuns ⌝ }
+{
+    notice::delegated(s, cfg, p, time, workers, spread, tag, log)
+}
+
+// The decrypt worker that held the epoch of `tag` is gone.
+#[no_mangle]
+pub extern "C" fn siklyavon_undelegated(
+    s: State,
+    cfg: Config,
+    p: Profile,
+    time: u64,
+    workers: bool,
+    spread: i32,
+    tag: u64,
+    log: &mut [u64; 768],
+) -> Answer
+    ensures undelegated { λ r. ⌜ Answers (undelegatedAnswer s cfg p spread tag) r (now (log .entry)) (now (log .exit)) ⌝ }
+    ensures exact { λ r. ⌜ NoticeExact s cfg p spread (undelegatedAnswer s cfg p spread tag) ⌝ }
+    ensures runs { λ r. ⌜ TwoRuns ⌝ }
+{
+    notice::undelegated(s, cfg, p, time, workers, spread, tag, log)
+}
+
+// An application message was sealed.
+#[no_mangle]
+pub extern "C" fn siklyavon_data_sent(
+    s: State,
+    cfg: Config,
+    p: Profile,
+    time: u64,
+    workers: bool,
+    spread: i32,
+    log: &mut [u64; 768],
+) -> Answer
+    ensures sent { λ r. ⌜ Answers (dataSentAnswer s cfg p spread) r (now (log .entry)) (now (log .exit)) ⌝ }
+    ensures exact { λ r. ⌜ NoticeExact s cfg p spread (dataSentAnswer s cfg p spread) ⌝ }
+    ensures runs { λ r. ⌜ TwoRuns ⌝ }
+{
+    notice::data_sent(s, cfg, p, time, workers, spread, log)
+}
+
+// Whether a next hop exists, and the smoothed round trip where it was measured.
+#[no_mangle]
+pub extern "C" fn siklyavon_path(
+    s: State,
+    cfg: Config,
+    p: Profile,
+    time: u64,
+    workers: bool,
+    spread: i32,
+    reachable: bool,
+    srtt: When,
+    log: &mut [u64; 768],
+) -> Answer
+    ensures path { λ r. ⌜ Answers (pathAnswer s cfg p spread reachable srtt) r (now (log .entry)) (now (log .exit)) ⌝ }
+    ensures exact { λ r. ⌜ NoticeExact s cfg p spread (pathAnswer s cfg p spread reachable srtt) ⌝ }
+    ensures runs { λ r. ⌜ TwoRuns ⌝ }
+{
+    notice::path(s, cfg, p, time, workers, spread, reachable, srtt, log)
 }
 
 // The current epoch's sent count is told at `time`, with which the call is logged. The answer does

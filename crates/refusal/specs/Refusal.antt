@@ -115,7 +115,7 @@ unfoldable pub pollTests : State → Config → Profile → ℤ → ℕ → List
 pollTests s cfg p spread extra =
     givenTests cfg p ++ stateTests s ++ by refusedDraw (spreadBad (cfg .jitter) spread || extraBad (cfg .jitter) extra) ∷ []
 
--- frame: 1 to 7
+-- frame, notice: 1 to 7
 unfoldable pub frameTests : State → Config → Profile → ℤ → List Test
 frameTests s cfg p spread = givenTests cfg p ++ stateTests s ++ by refusedDraw (spreadBad (cfg .jitter) spread) ∷ []
 

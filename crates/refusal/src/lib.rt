@@ -304,7 +304,7 @@ pub fn before_link(s: State, cfg: Config, p: Profile) -> Refused
     before_told(s)
 }
 
-// What a frame tests before its own 8 and 9: 1 to 7.
+// What a notice tests, and a frame before its own 8 and 9: 1 to 7, with the spread alone.
 pub fn before_frame(s: State, cfg: Config, p: Profile, spread: i32) -> Refused
     ensures { λ r. ⌜ r ≡ beforeFrame s cfg p spread ⌝ }
 {

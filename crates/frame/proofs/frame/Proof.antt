@@ -20,7 +20,7 @@ returns-2 c =
     let r = c .before .before .before .before .before .before .before .before .before .send-back in
     let e : r .result ≡ frameRefused (st .args .s) (st .args .cfg) (st .args .profile) (st .args .spread) (st .args .p .slot) (st .args .p .tag) = simp (toZ-ofZ (st .fits .spread)) at (r .ensures) in
     let n = c .before .before .before .before .before .before .before .if1 .left in
-    let g = c .before .before .before .before .before .before .gather in
+    let g = c .before .before .before .before .before .before .given in
     let f = c .before .before .before .frame-accepted in
     let z = toZ-ofZ (st .fits .spread) in
     frame-on _ _ _ _ _ _ _ _ _ _ _ e _ n _ _ (c .finish .ensures) (simp (f .ensures .0, g .ensures, z)) _ _ w (simp (f .ensures .1 .1, g .ensures, z)) _ (simp (f .ensures .1 .0, g .ensures, z))

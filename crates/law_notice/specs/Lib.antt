@@ -1,0 +1,4 @@
+pub mod Kept
+pub mod Agree
+pub mod Most
+pub mod Tells

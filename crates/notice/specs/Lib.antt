@@ -1,0 +1,3 @@
+pub mod Notices
+pub mod Exact
+pub mod Answer
