@@ -352,7 +352,7 @@ fn call_of(index: usize) -> u8 {
 fn read_named(line: &[u8], out: &mut [u8], step: Step, number: u64, call: u8, scan: Scan) -> Step {
     let mut a = [0u64; ARGS];
     let mut seen = [0u64; NAMES];
-    let read = read_arguments(line, scan, call, step.time, &mut a, &mut seen);
+    let read = read_arguments(line, scan, call, step, &mut a, &mut seen);
     if read.scan.fault != text::NONE {
         return faults::field(line, out, step, number, call, read);
     }
@@ -367,12 +367,13 @@ fn read_arguments(
     line: &[u8],
     scan: Scan,
     call: u8,
-    time: u64,
+    step: Step,
     a: &mut [u64; ARGS],
     seen: &mut [u64; NAMES],
 ) -> Reading {
-    text_form::prepare(call, a);
-    a[place::NOW] = time;
+    let link = step.link;
+    text_form::prepare(call, held_tag(link.state, 0), a);
+    a[place::NOW] = step.time;
     text_form::read_line(line, scan, call, 0, a, seen)
 }
 
@@ -385,7 +386,8 @@ fn ready(there: bool, call: u8) -> bool {
     }
 }
 
-// A frame's tag that is not named is that of the epoch in its slot.
+// A frame's tag that is not named is that of the epoch in its slot; of another call it is the current
+// epoch's, which is prepared.
 fn tag_slot(a: &mut [u64; ARGS], call: u8, named: u64, step: Step) {
     if call == text_words::FRAME {
         if named == 0 {

@@ -51,6 +51,11 @@ and writes what the link tells: call, instant, event, a, b. A line is one of
   frame T [slot N] [tag N] [counter N] [k F] [len N] [probe F] [body N] [workers F] [spread N] [target N] [source N]
   reply T [opened | failed] [hs N] [msg N] [transport N] [lease N]
   sent T N, wake [T], status T
+  worker T [workers F] [spread N] [tag N] [k F] [counter N]
+  delegated T [workers F] [spread N] [tag N]
+  undelegated T [workers F] [spread N] [tag N]
+  datasent T [workers F] [spread N]
+  path T [workers F] [spread N] [reachable F] [srtt N]
   set NAME N .., profile NAME N .., explain F, state .., show
   memory NAME N .., current NAME N .., drained T .., pendi T .., pendr T .., candidate T ..
 docs/RUNS.md has every name, docs/EVENTS.md what each event means, docs/SUPPORT.md five faults.

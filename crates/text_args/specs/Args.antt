@@ -7,6 +7,7 @@ use lib.IntN.{ℤ, pos, _-ℤ_}
 use lib.ListN.{getD}
 use Rattle.time.specs.Pick.{pick}
 use Rattle.time.specs.Time.{least}
+use Rattle.time.specs.declared.When.{When}
 use Rattle.epoch.specs.declared.Index.{Index}
 
 -- the largest number of 8 bits
@@ -44,6 +45,10 @@ signedAt a i = pos (wordAt a i) -ℤ pos zeroAt
 -- its flag, and its number one place behind
 unfoldable pub indexAt : List ℕ → ℕ → Index
 indexAt a i = record { some = flagAt a i; index = wordAt a (i + 1) }
+
+-- likewise, of a number that may be absent
+unfoldable pub whenAt : List ℕ → ℕ → When
+whenAt a i = record { some = flagAt a i; at = numberAt a (i + 1) }
 
 -- 2^31 above itself too, and of 32 bits without a sign; below 0 it is the largest
 unfoldable pub extraAt : List ℕ → ℕ → ℕ

@@ -1,11 +1,13 @@
-// The arguments of a call: a row of numbers, in which a flag is 0 or 1, an index takes two places,
-// and a number with a sign stands 2^31 above itself. No function has a `requires`: past the end of
-// the row a number is 0, and a number that a narrower type does not hold becomes its largest.
+// The arguments of a call: a row of numbers, in which a flag is 0 or 1, an index and a number that may
+// be absent take two places, and a number with a sign stands 2^31 above itself. No function has a
+// `requires`: past the end of the row a number is 0, and a number that a narrower type does not hold
+// becomes its largest.
 ghost use mathlib.Core.Path.{_≡_};
 ghost use Prim.Native.Nat.{_+_};
-ghost use Rattle.text_args.specs.Args.{numberAt, flagAt, byteAt, wordAt, signedAt, indexAt, extraAt, largestWord};
+ghost use Rattle.text_args.specs.Args.{numberAt, flagAt, byteAt, wordAt, signedAt, indexAt, whenAt, extraAt, largestWord};
 ghost use Rattle.time.specs.Time.{least};
 use epoch::Index;
+use time::When;
 
 // How many numbers a row has.
 pub const ARGS: usize = 16;
@@ -63,6 +65,17 @@ pub fn index(a: &[u64; ARGS], i: usize) -> Index
     Index {
         some: flag(a, i),
         index: narrow(behind(a, i)),
+    }
+}
+
+// The number that may be absent, whose flag is at `i` and whose value is behind it.
+pub fn when(a: &[u64; ARGS], i: usize) -> When
+    ensures { λ r. ⌜ r ≡ whenAt (now (a .entry)) i ⌝ }
+{
+    let there = flag(a, i);
+    When {
+        some: there,
+        at: behind(a, i),
     }
 }
 

@@ -15,6 +15,7 @@ use Rattle.call_read.specs.declared.Woke.{Woke}
 use Rattle.call_read.specs.declared.Shown.{Shown}
 use Rattle.call_read.specs.Read.{wokeOf, statusOf}
 use Rattle.text_args.specs.Args.{numberAt, flagAt, byteAt, signedAt, indexAt, extraAt}
+use Rattle.text_notices.specs.Notices.{noticeOn}
 use Rattle.text_calls.specs.declared.Link.{Link}
 use Rattle.text_calls.specs.Places.{openNow, openRole, openTransport, openLease, openWorkers, openSpread}
 use Rattle.text_calls.specs.Places.{pollNow, pollWorkers, pollSpread, pollExtra}
@@ -89,7 +90,7 @@ wakeOn l = wokeOf (l .state) (l .cfg) (l .profile)
 unfoldable pub statusOn : Link → List ℕ → Shown
 statusOn l a = statusOf (l .state) (l .cfg) (l .profile) (numberAt a statusNow)
 
--- ---- the calls that hand a state back, by number; src/call.rt has the same names for code
+-- ---- the calls that hand a state back, by number; crate `text_words` has the same names for code
 
 abbrev pub callOpen : ℕ
 callOpen = 0
@@ -103,13 +104,17 @@ callFrame = 2
 abbrev pub callReply : ℕ
 callReply = 3
 
--- any other number is a `sent`
+abbrev pub callSent : ℕ
+callSent = 4
+
+-- any other number is a notice's
 unfoldable pub answerOn : ℕ → Link → List ℕ → List ℕ → List ℕ → Outcome
 answerOn call l a source target =
     pick (eqb call callOpen) (openOn l a)
     (pick (eqb call callPoll) (pollOn l a)
     (pick (eqb call callFrame) (frameOn l a source target)
-    (pick (eqb call callReply) (replyOn l a) (sentOn l a))))
+    (pick (eqb call callReply) (replyOn l a)
+    (pick (eqb call callSent) (sentOn l a) (noticeOn call (l .state) (l .cfg) (l .profile) a)))))
 
 -- only a frame writes to the target
 unfoldable pub leftOn : ℕ → Link → List ℕ → List ℕ → List ℕ → List ℕ

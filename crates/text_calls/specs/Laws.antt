@@ -13,8 +13,9 @@ use Rattle.answer.specs.Outcome.{Outcome}
 use Rattle.answer.specs.Written.{Written, wordsIn, over}
 use Rattle.answer.specs.Answers.{Answers}
 use Rattle.answer.specs.Laws.{written-none}
+use Rattle.text_notices.specs.Notices.{noticeOn}
 use Rattle.text_calls.specs.declared.Link.{Link}
-use Rattle.text_calls.specs.Calls.{openOn, pollOn, frameOn, targetOn, replyOn, sentOn, answerOn, leftOn, callOpen, callPoll, callFrame, callReply}
+use Rattle.text_calls.specs.Calls.{openOn, pollOn, frameOn, targetOn, replyOn, sentOn, answerOn, leftOn, callOpen, callPoll, callFrame, callReply, callSent}
 
 -- ---- a call that is lent no log leaves every word of one
 
@@ -54,16 +55,20 @@ module _ (call : ℕ) (l : Link) (a source target : List ℕ) (r : Answer) (ws w
   unfolding answerOn leftOn
   by-frame left e h k = rw e (h, k)
 
+  pub by-notice :
+      (call ≡ callOpen → ⊥) → (call ≡ callPoll → ⊥) → (call ≡ callFrame → ⊥) → (call ≡ callReply → ⊥) → (call ≡ callSent → ⊥)
+      → Answers (noticeOn call (l .state) (l .cfg) (l .profile) a) r ws ws′
+      → Answers (answerOn call l a source target) r ws ws′ × (target ≡ leftOn call l a source target)
+  unfolding answerOn leftOn
+  by-notice o p f q t h =
+      rw (ne-eqb call callOpen o, ne-eqb call callPoll p, ne-eqb call callFrame f, ne-eqb call callReply q, ne-eqb call callSent t)
+      (h, refl)
+
 module _ (call : ℕ) (l : Link) (a source target : List ℕ) (r : Answer) (ws : List ℕ) where
   pub by-reply : call ≡ callReply → Answers (replyOn l a) r [] [] → Answers (answerOn call l a source target) r ws ws × (target ≡ leftOn call l a source target)
   unfolding answerOn leftOn
   by-reply e h = rw e (unlent (replyOn l a) r ws h, refl)
 
-  pub by-sent :
-      (call ≡ callOpen → ⊥) → (call ≡ callPoll → ⊥) → (call ≡ callFrame → ⊥) → (call ≡ callReply → ⊥)
-      → Answers (sentOn l a) r [] []
-      → Answers (answerOn call l a source target) r ws ws × (target ≡ leftOn call l a source target)
+  pub by-sent : call ≡ callSent → Answers (sentOn l a) r [] [] → Answers (answerOn call l a source target) r ws ws × (target ≡ leftOn call l a source target)
   unfolding answerOn leftOn
-  by-sent o p f q h =
-      rw (ne-eqb call callOpen o, ne-eqb call callPoll p, ne-eqb call callFrame f, ne-eqb call callReply q)
-      (unlent (sentOn l a) r ws h, refl)
+  by-sent e h = rw e (unlent (sentOn l a) r ws h, refl)

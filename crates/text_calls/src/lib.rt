@@ -162,8 +162,8 @@ pub fn status(link: Link, a: &[u64; ARGS]) -> Shown
     call_read::status(s, cfg, profile, text_args::number(a, place::STATUS_NOW))
 }
 
-// The call of that number, among those that hand a state back; any number past them is `SENT`. Only
-// a frame reads the source and writes to the target.
+// The call of that number, among those that hand a state back; any number past `SENT` is a notice's.
+// Only a frame reads the source and writes to the target.
 pub fn answer(
     link: Link,
     call: u8,
@@ -187,5 +187,11 @@ pub fn answer(
     if call == text_words::REPLY {
         return reply(link, a);
     }
-    sent(link, a)
+    if call == text_words::SENT {
+        return sent(link, a);
+    }
+    let s = link.state;
+    let cfg = link.cfg;
+    let profile = link.profile;
+    text_notices::notice(s, cfg, profile, call, a, log)
 }

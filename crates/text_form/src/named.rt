@@ -25,14 +25,14 @@ struct Found {
     scan: Scan,
 }
 
-// Puts the defaults of a line's arguments.
-pub fn prepare(part: u8, v: &mut [u64]) {
+// Puts the defaults of a line's arguments, where `tag` is the current epoch's.
+pub fn prepare(part: u8, tag: u64, v: &mut [u64]) {
     let mut e = [0u8; text_words::ENTRY];
     text_words::entry(part, &mut e);
-    prepare_entry(&e, v);
+    prepare_entry(&e, tag, v);
 }
 
-fn prepare_entry(e: &[u8], v: &mut [u64]) {
+fn prepare_entry(e: &[u8], tag: u64, v: &mut [u64]) {
     let mut place: usize = 0;
     let mut at = text_words::first(e);
     let mut i: usize = 0;
@@ -41,18 +41,19 @@ fn prepare_entry(e: &[u8], v: &mut [u64]) {
         if !a.some {
             return;
         }
-        put_default(v, place, e, a);
+        put_default(v, place, e, a, tag);
         place = row::after(place, letters::width(a.letter));
         at = a.next;
         i += 1;
     }
 }
 
-fn put_default(v: &mut [u64], place: usize, e: &[u8], a: Argument) {
+fn put_default(v: &mut [u64], place: usize, e: &[u8], a: Argument, tag: u64) {
     let value = text_words::default_value(e, a);
     match text_words::default_sign(e, a) {
         b'.' => (),
         b'-' => put_none(v, place),
+        b'@' => put_value(v, place, a.letter, tag),
         _ => put_value(v, place, a.letter, value),
     }
 }

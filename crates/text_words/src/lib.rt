@@ -17,7 +17,7 @@
 //   !           none: the argument stands by place in both programs
 //   ?           by place in `runs`, where it may be left out; not in `replay`
 //   .           the value stays what it was: the settings' so far, or that of a record as it was made
-//   @           the tag of the epoch in the frame's slot
+//   @           the tag of the current epoch; of a frame, that of the epoch in its slot
 mod names;
 mod walk;
 
@@ -47,38 +47,50 @@ pub const REPLY: u8 = 3;
 
 pub const SENT: u8 = 4;
 
-pub const WAKE: u8 = 5;
+// The notices.
+pub const WORKER: u8 = 5;
 
-pub const STATUS: u8 = 6;
+pub const DELEGATED: u8 = 6;
+
+pub const UNDELEGATED: u8 = 7;
+
+pub const DATASENT: u8 = 8;
+
+pub const PATH: u8 = 9;
+
+// The calls that hand no state back.
+pub const WAKE: u8 = 10;
+
+pub const STATUS: u8 = 11;
 
 // How many calls there are.
-pub const CALLS: u8 = 7;
+pub const CALLS: u8 = 12;
 
 // What is given beside a call, and the records of a state.
-pub const SETTINGS: u8 = 7;
+pub const SETTINGS: u8 = CALLS;
 
-pub const PROFILE: u8 = 8;
+pub const PROFILE: u8 = CALLS + 1;
 
-pub const MEMORY: u8 = 9;
+pub const MEMORY: u8 = CALLS + 2;
 
-pub const EPOCH: u8 = 10;
+pub const EPOCH: u8 = CALLS + 3;
 
-pub const DRAIN: u8 = 11;
+pub const DRAIN: u8 = CALLS + 4;
 
-pub const INIT: u8 = 12;
+pub const INIT: u8 = CALLS + 5;
 
-pub const PENDI: u8 = 13;
+pub const PENDI: u8 = CALLS + 6;
 
-pub const PENDR: u8 = 14;
+pub const PENDR: u8 = CALLS + 7;
 
-pub const CANDIDATES: u8 = 15;
+pub const CANDIDATES: u8 = CALLS + 8;
 
-pub const CANDIDATE: u8 = 16;
+pub const CANDIDATE: u8 = CALLS + 9;
 
 // A block of `replay`, and whether `runs` explains.
-pub const BLOCK: u8 = 17;
+pub const BLOCK: u8 = CALLS + 10;
 
-pub const EXPLAIN: u8 = 18;
+pub const EXPLAIN: u8 = CALLS + 11;
 
 // No entry is longer, with the space behind it.
 pub const ENTRY: usize = 512;
@@ -124,7 +136,24 @@ fn copy_call(call: u8, to: &mut [u8]) -> usize {
         ),
         SENT => start(to, b"sent now n ! count n !"),
         WAKE => start(to, b"wake now n ?"),
-        _ => start(to, b"status now n !"),
+        STATUS => start(to, b"status now n !"),
+        _ => copy_notice(call, to),
+    }
+}
+
+fn copy_notice(call: u8, to: &mut [u8]) -> usize {
+    match call {
+        WORKER => start(
+            to,
+            b"worker now n ! workers f 0 spread s 0 tag n @ k f 0 counter n 0",
+        ),
+        DELEGATED => start(to, b"delegated now n ! workers f 0 spread s 0 tag n @"),
+        UNDELEGATED => start(to, b"undelegated now n ! workers f 0 spread s 0 tag n @"),
+        DATASENT => start(to, b"datasent now n ! workers f 0 spread s 0"),
+        _ => start(
+            to,
+            b"path now n ! workers f 0 spread s 0 reachable f 1 srtt o -",
+        ),
     }
 }
 

@@ -1,5 +1,5 @@
 use borrow.Author.Needs.{needs}
-use Rattle.text_calls.specs.Laws.{by-open, by-poll, by-frame, by-reply, by-sent}
+use Rattle.text_calls.specs.Laws.{by-open, by-poll, by-frame, by-reply, by-sent, by-notice}
 use Rattle.text_calls.proofs.answer.Statement.{statement}
 use Rattle.text_calls.proofs.answer.Tie as tie
 
@@ -18,11 +18,14 @@ returns-4 : tie.Need-returns-4
 returns-4 c = by-reply _ _ _ _ _ _ _ (c .before .if4 .taken) (c .reply .ensures)
 
 returns-5 : tie.Need-returns-5
-returns-5 c =
-    let t = c .before in
-    by-sent _ _ _ _ _ _ _ (t .before .before .before .if1 .left) (t .before .before .if2 .left) (t .before .if3 .left) (t .if4 .left) (c .sent .ensures)
+returns-5 c = by-sent _ _ _ _ _ _ _ (c .before .if5 .taken) (c .sent .ensures)
+
+returns-6 : tie.Need-returns-6
+returns-6 c =
+    let t = c .before .before .before .before .before in
+    by-notice _ _ _ _ _ _ _ _ (t .before .before .before .before .if1 .left) (t .before .before .before .if2 .left) (t .before .before .if3 .left) (t .before .if4 .left) (t .if5 .left) (c .notice .ensures)
 
 pub answer-spec : {M : Type 1} → statement M
 answer-spec =
     tie.close
-    (tie.spec (λ c κs. tt) returns (λ c κs. tt) returns-2 (λ c κs. tt) (λ c. search needs) returns-3 (λ c κs. tt) returns-4 (λ c κs. tt) returns-5)
+    (tie.spec (λ c κs. tt) returns (λ c κs. tt) returns-2 (λ c κs. tt) (λ c. search needs) returns-3 (λ c κs. tt) returns-4 (λ c κs. tt) returns-5 (λ c κs. tt) returns-6)

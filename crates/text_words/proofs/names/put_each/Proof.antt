@@ -7,10 +7,10 @@ use Rattle.text_words.proofs.names.put_each.Statement.{statement}
 use Rattle.text_words.proofs.names.put_each.Tie as tie
 
 abbrev Inv-loop : tie.InvT-loop
-Inv-loop to₀ at end₀ i₀ to end i = (i ≤ 7) × (length to ≡ length to₀)
+Inv-loop to₀ at end₀ i₀ to end i = (i ≤ 255) × (length to ≡ length to₀)
 
 abbrev μ-loop : tie.MeasureT-loop
-μ-loop to₀ at end₀ i₀ to end i = 7 - i
+μ-loop to₀ at end₀ i₀ to end i = 255 - i
 
 pub put-each-spec : {M : Type 1} → statement M
 put-each-spec = tie.close (tie.spec Inv-loop μ-loop (λ c. search needs) (λ c κs. tt) (λ c. search needs) (λ c. search needs) (λ c. search needs) (λ c. search needs) (λ c. tt))
