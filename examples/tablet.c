@@ -1,8 +1,9 @@
 /* The host loop of a counting tablet: it holds one link to its hub. It sleeps by the wake, polls, answers
- * START, survives starts that open nothing and calls that are refused, and delivers frames.
+ * START, survives starts that open nothing and calls that are refused, delivers frames, and tells the link
+ * what its receive worker and the path report.
  *
- * Clock, network and keys are simulated: the clock jumps to the next instant at which something happens,
- * and hub() says what happens outside. So every run writes the same lines, those of examples/tablet.txt,
+ * Clock, network, keys and the worker are simulated: the clock jumps to the next instant at which something
+ * happens, and hub() says what happens outside. So every run writes the same lines, those of examples/tablet.txt,
  * and examples/tablet.rs writes them too. examples/run builds, runs and compares both. */
 #include "siklyavon_link.h"
 #include <inttypes.h>
@@ -16,7 +17,9 @@
 #define BODY 16      /* where the plaintext of a frame begins in the tablet's buffer */
 
 /* What happens outside, in this order. */
-enum what { NOTHING, DATA, WRONG_TAG, BAD_SETTINGS, REPLY, MOVED, END };
+enum what {
+    NOTHING, DATA, HEARD, WRONG_TAG, GONE, HERE, BACK, BAD_SETTINGS, PATH_LOST, PATH_FOUND, REPLY, MOVED, LATE, END
+};
 
 static struct {
     uint64_t now;
@@ -24,7 +27,9 @@ static struct {
     siklyavon_profile profile;
     siklyavon_state link;
     uint64_t log[SIKLYAVON_WORDS];
+    uint64_t notice[SIKLYAVON_WORDS]; /* of a call that is made while the log is carried out */
     uint8_t frame[64];
+    bool workers;     /* the receive worker is there */
     uint64_t sealed;  /* frames sealed under the current epoch */
     uint64_t tag;     /* the last tag given to an epoch */
     uint64_t next;    /* no poll before this instant */
@@ -34,7 +39,7 @@ static struct {
     enum what done;   /* what happened last */
     uint32_t seed;    /* of the draws */
     bool closed;      /* a teardown was told */
-    unsigned polls, tries, refused, delivered;
+    unsigned polls, tries, refused, delivered, reported;
 } t;
 
 static const char *const role[] = {
@@ -51,6 +56,13 @@ static const char *const evidence[] = {
     [SIKLYAVON_EVIDENCE_PROOF] = "proof",     [SIKLYAVON_EVIDENCE_FRAME] = "frame",
     [SIKLYAVON_EVIDENCE_RESTART] = "restart", [SIKLYAVON_EVIDENCE_ASSUMED] = "assumed",
     [SIKLYAVON_EVIDENCE_DELAY] = "delay",     [SIKLYAVON_EVIDENCE_FIRST] = "first"};
+static const char *const reason[] = {
+    [SIKLYAVON_REASON_SHORT_PLAINTEXT] = "short plaintext",
+    [SIKLYAVON_REASON_STALE_TAG] = "stale tag",
+    [SIKLYAVON_REASON_NOT_DELEGATED] = "not delegated",
+    [SIKLYAVON_REASON_ALREADY_DELEGATED] = "already delegated",
+    [SIKLYAVON_REASON_NOT_OFFERED] = "not offered",
+    [SIKLYAVON_REASON_CANDIDATE_EXPIRED] = "candidate expired"};
 static const char *const cause[] = {
     [SIKLYAVON_ABANDON_ADOPTION_NOT_SEEN] = "adoption not seen",
     [SIKLYAVON_ABANDON_UNADOPTED] = "unadopted",
@@ -156,11 +168,27 @@ static void try_to_start(void) {
     }
 }
 
+/* The current epoch's count of sealed frames is told. */
+static void count(void) {
+    siklyavon_answer a = siklyavon_sent(t.link, t.now, t.sealed);
+    taken("sent", &a);
+}
+
+static void carry_out(const uint64_t *log, size_t len);
+
+/* The worker takes the receive half that was offered. The offer's log is still being carried out, so this
+ * call gets another. No notice uses its draw. */
+static void hand_over(uint64_t tag) {
+    say("  worker took epoch %" PRIu64, tag);
+    siklyavon_answer a = siklyavon_delegated(t.link, t.cfg, t.profile, t.now, t.workers, 0, tag, t.notice);
+    if (taken("delegated", &a)) carry_out(t.notice, a.len);
+}
+
 /* Carry the events of a call out, front to back. */
-static void carry_out(size_t len) {
+static void carry_out(const uint64_t *log, size_t len) {
     bool told = false;
     for (size_t i = 0; i < len; i++) {
-        const uint64_t *e = &t.log[i * SIKLYAVON_WORDS_PER_EVENT];
+        const uint64_t *e = &log[i * SIKLYAVON_WORDS_PER_EVENT];
         switch (e[0]) {
         case SIKLYAVON_EVENT_SEND: say("  send: message %" PRIu64 ", %s", e[1], message[e[2]]); break;
         case SIKLYAVON_EVENT_PROMPT:
@@ -179,7 +207,13 @@ static void carry_out(size_t len) {
             say("  bind: transport %" PRIu64 ", index %" PRIu64 ", %s", e[1], e[2], purpose[e[5]]);
             break;
         case SIKLYAVON_EVENT_UNBIND: say("  unbind: transport %" PRIu64 ", index %" PRIu64, e[1], e[2]); break;
-        case SIKLYAVON_EVENT_DELEGATE: say("  delegate: epoch %" PRIu64, e[1]); break;
+        case SIKLYAVON_EVENT_DELEGATE:
+            if (e[5] != 0)
+                say("  delegate: epoch %" PRIu64 ", floor %" PRIu64, e[1], e[6]);
+            else
+                say("  delegate: epoch %" PRIu64, e[1]);
+            hand_over(e[1]);
+            break;
         case SIKLYAVON_EVENT_REVOKE: say("  revoke: epoch %" PRIu64, e[1]); break;
         case SIKLYAVON_EVENT_RELEASE: say("  release: index %" PRIu64, e[1]); break;
         case SIKLYAVON_EVENT_INSTALLED:
@@ -191,9 +225,7 @@ static void carry_out(size_t len) {
         case SIKLYAVON_EVENT_PEER_RESTARTED: say("  peer restarted: %" PRIu64, e[1]); break;
         case SIKLYAVON_EVENT_REKEYED: say("  rekeyed: %s", role[e[1]]); break;
         case SIKLYAVON_EVENT_REPLACE_REQUESTED: break; /* no call tells it */
-        case SIKLYAVON_EVENT_REJECT:
-            say("  reject: %s", e[1] == SIKLYAVON_REASON_SHORT_PLAINTEXT ? "short plaintext" : "candidate expired");
-            break;
+        case SIKLYAVON_EVENT_REJECT: say("  reject: %s", reason[e[1]]); break;
         case SIKLYAVON_EVENT_ABANDONED: say("  abandoned: %s", cause[e[1]]); break;
         case SIKLYAVON_EVENT_TEARDOWN:
             say("  teardown: %s", why[e[1]]);
@@ -207,11 +239,41 @@ static void carry_out(size_t len) {
         case SIKLYAVON_EVENT_ENDED: say("  ended: epoch %" PRIu64, e[1]); break;
         }
     }
-    /* A prompt is a frame that was sealed: the current epoch's count is told. */
-    if (told) {
-        siklyavon_answer a = siklyavon_sent(t.link, t.now, t.sealed);
-        taken("sent", &a);
-    }
+    /* A prompt is a frame that was sealed. */
+    if (told) count();
+}
+
+/* A frame of the hub, which the worker opened. It has the replay window and hands the plaintext up. */
+static void worker_hears(uint64_t tag, uint64_t counter, const char *text) {
+    t.reported++;
+    say("worker: frame of %zu bytes under epoch %" PRIu64 ", \"%s\"", strlen(text), tag, text);
+    siklyavon_answer a = siklyavon_worker(t.link, t.cfg, t.profile, t.now, t.workers, 0, tag, t.link.cur.ep.k, counter,
+                                          t.log);
+    if (taken("worker", &a)) carry_out(t.log, a.len);
+}
+
+/* The worker is gone: the epoch of the tag is received here again. */
+static void worker_gone(uint64_t tag) {
+    t.workers = false;
+    say("worker gone: epoch %" PRIu64, tag);
+    siklyavon_answer a = siklyavon_undelegated(t.link, t.cfg, t.profile, t.now, t.workers, 0, tag, t.log);
+    if (taken("undelegated", &a)) carry_out(t.log, a.len);
+}
+
+/* The tablet seals data for the hub. */
+static void seal(const char *text) {
+    say("seal: %zu bytes under epoch %" PRIu64, strlen(text), t.link.cur.ep.tag);
+    siklyavon_answer a = siklyavon_data_sent(t.link, t.cfg, t.profile, t.now, t.workers, 0, t.log);
+    if (taken("data_sent", &a)) carry_out(t.log, a.len);
+    t.sealed++;
+    count();
+}
+
+/* The way to the hub is lost or found, with the round trip where it was measured. */
+static void path(bool reachable, siklyavon_when srtt) {
+    say("path: %s", reachable ? "found" : "lost");
+    siklyavon_answer a = siklyavon_path(t.link, t.cfg, t.profile, t.now, t.workers, 0, reachable, srtt, t.log);
+    if (taken("path", &a)) carry_out(t.log, a.len);
 }
 
 /* A frame of the hub, which the tablet's own half opened. Its plaintext goes to t.frame, from BODY on. */
@@ -219,9 +281,9 @@ static void hear(uint64_t tag, uint64_t counter, const char *text) {
     const uint8_t *plain = (const uint8_t *)text;
     siklyavon_frame_proof p = {tag, SIKLYAVON_SLOT_CURRENT, counter, t.link.cur.ep.k, strlen(text), false};
     say("frame of %zu bytes under epoch %" PRIu64, p.len, tag);
-    siklyavon_answer a = siklyavon_frame(t.link, t.cfg, t.profile, t.now, false, spread(), p, BODY, plain, p.len,
+    siklyavon_answer a = siklyavon_frame(t.link, t.cfg, t.profile, t.now, t.workers, spread(), p, BODY, plain, p.len,
                                          t.frame, sizeof t.frame, t.log);
-    if (taken("frame", &a)) carry_out(a.len);
+    if (taken("frame", &a)) carry_out(t.log, a.len);
 }
 
 /* The reply to the own attempt authenticated: no call takes it, the fields are written (the header's table,
@@ -257,12 +319,19 @@ static void answered(void) {
 /* When the next thing happens outside. */
 static uint64_t outside(void) {
     switch (t.done) {
-    case NOTHING: return 2000;
-    case DATA: return 3000;
-    case WRONG_TAG: return 5000;
-    case BAD_SETTINGS: return t.started == NEVER ? NEVER : t.started + 1500;
+    case NOTHING: return 1500;
+    case DATA: return 2000;
+    case HEARD: return 3000;
+    case WRONG_TAG: return 4000;
+    case GONE: return 4500;
+    case HERE: return 5000;
+    case BACK: return 6000;
+    case BAD_SETTINGS: return 40000;
+    case PATH_LOST: return 52000;
+    case PATH_FOUND: return t.started == NEVER ? NEVER : t.started + 1500;
     case REPLY: return t.started + 4000;
-    case MOVED: return 100000;
+    case MOVED: return t.started + 14500;
+    case LATE: return 100000;
     case END: break;
     }
     return NEVER;
@@ -271,18 +340,38 @@ static uint64_t outside(void) {
 /* The next thing happens. */
 static void hub(void) {
     siklyavon_config other = t.cfg;
+    siklyavon_when measured = {true, 80}, absent = {false, 0};
     uint8_t place;
     switch (t.done) {
     case NOTHING:
         t.done = DATA;
-        hear(1, 1, "box 12: 431 ballots");
+        seal("box 12?");
         break;
     case DATA:
+        t.done = HEARD;
+        worker_hears(1, 1, "box 12: 431 ballots");
+        break;
+    case HEARD:
         /* A frame with the tag of an epoch that is not held: the link refuses it and stays. */
         t.done = WRONG_TAG;
         hear(9, 2, "box 13: 220 ballots");
         break;
     case WRONG_TAG:
+        t.done = GONE;
+        worker_gone(1);
+        break;
+    case GONE:
+        /* No worker holds the epoch: the tablet opens its frames itself. */
+        t.done = HERE;
+        hear(1, 2, "box 13: 220 ballots");
+        break;
+    case HERE:
+        /* The next poll offers the epoch again. */
+        t.done = BACK;
+        t.workers = true;
+        say("worker back");
+        break;
+    case BACK:
         /* Settings of an operator are tested before they are taken. These fail, and the old ones stay. */
         t.done = BAD_SETTINGS;
         other.ttl = 0;
@@ -291,12 +380,26 @@ static void hub(void) {
         if (accepted("settings", place == 0 ? SIKLYAVON_ACCEPTED : SIKLYAVON_REFUSED_SETTINGS, place)) t.cfg = other;
         break;
     case BAD_SETTINGS:
+        /* No start is called for until the path is found again. */
+        t.done = PATH_LOST;
+        path(false, absent);
+        break;
+    case PATH_LOST:
+        t.done = PATH_FOUND;
+        path(true, measured);
+        break;
+    case PATH_FOUND:
         t.done = REPLY;
         answered();
         break;
     case REPLY:
         t.done = MOVED;
-        hear(2, 1, "box 13: 220 ballots");
+        worker_hears(2, 1, "box 14: 198 ballots");
+        break;
+    case MOVED:
+        /* The worker has not read the REVOKE yet: its notice is accepted, and a reject in the log. */
+        t.done = LATE;
+        worker_hears(1, 3, "box 13: 221 ballots");
         break;
     default: t.done = END;
     }
@@ -304,7 +407,7 @@ static void hub(void) {
 
 /* The instant of the next poll: at once where one has work, else the wake; never within check of the last. */
 static uint64_t look(void) {
-    siklyavon_given g = {t.cfg, t.profile, t.now, false, 0};
+    siklyavon_given g = {t.cfg, t.profile, t.now, t.workers, 0};
     uint64_t at = t.now;
     if (siklyavon_quiet(&t.link, g, 0)) {
         siklyavon_woke w = siklyavon_wake(t.link, t.cfg, t.profile);
@@ -319,10 +422,10 @@ static void poll(void) {
     t.polls++;
     if (t.polls == 2) s = 99; /* a draw outside of its range, to show what becomes of it */
     say("poll %u", t.polls);
-    siklyavon_answer a = siklyavon_poll(t.link, t.cfg, t.profile, t.now, false, s, extra, t.log);
+    siklyavon_answer a = siklyavon_poll(t.link, t.cfg, t.profile, t.now, t.workers, s, extra, t.log);
     /* Also a refused poll counts: the next one comes a check later, with new draws. */
     t.next = t.now + t.cfg.check;
-    if (taken("poll", &a)) carry_out(a.len);
+    if (taken("poll", &a)) carry_out(t.log, a.len);
 }
 
 int main(void) {
@@ -332,18 +435,19 @@ int main(void) {
     t.seed = 1;
     t.started = NEVER;
     t.done = NOTHING;
+    t.workers = true;
     t.tag = 1;
     t.profile = two;
     /* The defaults, and one field changed: a rekey each minute. */
     t.cfg = siklyavon_config_fmp();
     t.cfg.after = 60000;
 
-    siklyavon_answer a = siklyavon_open(t.cfg, t.profile, true, TRANSPORT, lease, false, spread(), t.now, t.log);
+    siklyavon_answer a = siklyavon_open(t.cfg, t.profile, true, TRANSPORT, lease, t.workers, spread(), t.now, t.log);
     say("open");
     if (!taken("open", &a)) return 1;
     t.link.mem.peer_epoch.some = true; /* read in the first handshake */
     t.link.mem.peer_epoch.at = HUB_EPOCH;
-    carry_out(a.len);
+    carry_out(t.log, a.len);
 
     while (!t.closed && t.done != END) {
         uint64_t at = look(), happens = outside();
@@ -361,6 +465,7 @@ int main(void) {
     if (!accepted("status", line.number, line.place)) return 1;
     say("status: epoch %" PRIu64 ", %s, wake %" PRIu64 ", quiet %" PRIu64, line.tag.at, kind[line.kind], line.wake.at,
         line.quiet.at);
-    say("%u polls, %u starts tried, %u calls refused, %u frames delivered", t.polls, t.tries, t.refused, t.delivered);
+    say("%u polls, %u starts tried, %u calls refused, frames: %u delivered here, %u reported by the worker", t.polls,
+        t.tries, t.refused, t.delivered, t.reported);
     return 0;
 }

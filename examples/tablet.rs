@@ -1,8 +1,9 @@
 //! The host loop of a counting tablet: it holds one link to its hub. It sleeps by the wake, polls,
-//! answers START, survives starts that open nothing and calls that are refused, and delivers frames.
+//! answers START, survives starts that open nothing and calls that are refused, delivers frames, and
+//! tells the link what its receive worker and the path report.
 //!
-//! Clock, network and keys are simulated: the clock jumps to the next instant at which something
-//! happens, and `hub` says what happens outside. So every run writes the same lines, those of
+//! Clock, network, keys and the worker are simulated: the clock jumps to the next instant at which
+//! something happens, and `hub` says what happens outside. So every run writes the same lines, those of
 //! examples/tablet.txt, and examples/tablet.c writes them too. examples/run builds, runs and compares
 //! both.
 use siklyavon_link::*;
@@ -19,10 +20,17 @@ const BODY: usize = 16;
 enum What {
     Nothing,
     Data,
+    Heard,
     WrongTag,
+    Gone,
+    Here,
+    Back,
     BadSettings,
+    PathLost,
+    PathFound,
     Reply,
     Moved,
+    Late,
     End,
 }
 
@@ -33,6 +41,8 @@ struct Tablet {
     link: State,
     log: Log,
     frame: [u8; 64],
+    /// The receive worker is there.
+    workers: bool,
     /// Frames sealed under the current epoch.
     sealed: u64,
     /// The last tag given to an epoch.
@@ -55,6 +65,15 @@ struct Tablet {
     tries: u32,
     refused: u32,
     delivered: u32,
+    reported: u32,
+}
+
+/// What a call is given beside the state and its draws. A method would borrow the whole tablet, whose
+/// link is lent to the same call.
+macro_rules! given {
+    ($t:ident) => {
+        Given { cfg: &$t.cfg, profile: &$t.profile, now: $t.now, workers: $t.workers }
+    };
 }
 
 /// The case's name in small letters: `AdoptionNotSeen` is "adoption not seen".
@@ -123,7 +142,7 @@ impl Tablet {
                 self.tries, a.hs, a.msg
             ));
         }
-        let given = Given { cfg: &self.cfg, profile: &self.profile, now: self.now, workers: false };
+        let given = given!(self);
         let r = reply(&mut self.link, given, opened);
         if self.accepted("reply", r).is_none() {
             return;
@@ -144,7 +163,29 @@ impl Tablet {
         }
     }
 
-    /// Carry the events of a call out, front to back.
+    /// The current epoch's count of sealed frames is told.
+    fn count(&mut self) {
+        let r = sent(&mut self.link, self.now, self.sealed);
+        self.accepted("sent", r);
+    }
+
+    /// The worker takes the receive half that was offered. No notice uses its draw.
+    fn hand_over(&mut self, tag: u64) {
+        self.say(format!("  worker took epoch {tag}"));
+        let given = given!(self);
+        let r = delegated(&mut self.link, given, 0, tag, &mut self.log);
+        self.then("delegated", r);
+    }
+
+    /// The events of a call that was accepted are carried out.
+    fn then<T>(&mut self, call: &str, r: Result<T, Refusal>) {
+        if self.accepted(call, r).is_some() {
+            self.carry_out();
+        }
+    }
+
+    /// Carry the events of a call out, front to back. They are copied first: some make a call
+    /// themselves, with the same log.
     fn carry_out(&mut self) {
         let mut told = false;
         for event in self.log.events().collect::<Vec<_>>() {
@@ -175,7 +216,11 @@ impl Tablet {
                 Event::Unbind { transport, index } => {
                     self.say(format!("  unbind: transport {transport}, index {index}"));
                 }
-                Event::Delegate { tag, .. } => self.say(format!("  delegate: epoch {tag}")),
+                Event::Delegate { tag, floor, .. } => {
+                    let floor = floor.map_or(String::new(), |f| format!(", floor {f}"));
+                    self.say(format!("  delegate: epoch {tag}{floor}"));
+                    self.hand_over(tag);
+                }
                 Event::Revoke { tag, .. } => self.say(format!("  revoke: epoch {tag}")),
                 Event::Release { index } => self.say(format!("  release: index {index}")),
                 Event::Installed { tag, role, evidence } => {
@@ -208,11 +253,47 @@ impl Tablet {
                 Event::Ended { tag } => self.say(format!("  ended: epoch {tag}")),
             }
         }
-        // A prompt is a frame that was sealed: the current epoch's count is told.
+        // A prompt is a frame that was sealed.
         if told {
-            let r = sent(&mut self.link, self.now, self.sealed);
-            self.accepted("sent", r);
+            self.count();
         }
+    }
+
+    /// A frame of the hub, which the worker opened. It has the replay window and hands the plaintext
+    /// up.
+    fn worker_hears(&mut self, tag: u64, counter: u64, text: &str) {
+        self.reported += 1;
+        self.say(format!("worker: frame of {} bytes under epoch {tag}, \"{text}\"", text.len()));
+        let (given, k) = (given!(self), self.link.cur.ep.k);
+        let r = worker(&mut self.link, given, 0, tag, k, counter, &mut self.log);
+        self.then("worker", r);
+    }
+
+    /// The worker is gone: the epoch of the tag is received here again.
+    fn worker_gone(&mut self, tag: u64) {
+        self.workers = false;
+        self.say(format!("worker gone: epoch {tag}"));
+        let given = given!(self);
+        let r = undelegated(&mut self.link, given, 0, tag, &mut self.log);
+        self.then("undelegated", r);
+    }
+
+    /// The tablet seals data for the hub.
+    fn seal(&mut self, text: &str) {
+        self.say(format!("seal: {} bytes under epoch {}", text.len(), self.link.cur.ep.tag));
+        let given = given!(self);
+        let r = data_sent(&mut self.link, given, 0, &mut self.log);
+        self.then("data_sent", r);
+        self.sealed += 1;
+        self.count();
+    }
+
+    /// The way to the hub is lost or found, with the round trip where it was measured.
+    fn path(&mut self, reachable: bool, srtt: Option<u64>) {
+        self.say(format!("path: {}", if reachable { "found" } else { "lost" }));
+        let given = given!(self);
+        let r = path(&mut self.link, given, 0, reachable, srtt, &mut self.log);
+        self.then("path", r);
     }
 
     /// A frame of the hub, which the tablet's own half opened. Its plaintext goes to the tablet's
@@ -228,12 +309,10 @@ impl Tablet {
         };
         self.say(format!("frame of {} bytes under epoch {tag}", proof.len));
         let spread = self.spread();
-        let given = Given { cfg: &self.cfg, profile: &self.profile, now: self.now, workers: false };
+        let given = given!(self);
         let (link, log) = (&mut self.link, &mut self.log);
         let r = frame(link, given, spread, proof, BODY, text.as_bytes(), &mut self.frame, log);
-        if self.accepted("frame", r).is_some() {
-            self.carry_out();
-        }
+        self.then("frame", r);
     }
 
     /// The reply to the own attempt authenticated: no call takes it, the fields are written (R1 to
@@ -274,14 +353,26 @@ impl Tablet {
     /// When the next thing happens outside.
     fn outside(&self) -> u64 {
         match self.done {
-            What::Nothing => 2000,
-            What::Data => 3000,
-            What::WrongTag => 5000,
-            What::BadSettings => self.started.map_or(u64::MAX, |t| t + 1500),
-            What::Reply => self.started.map_or(u64::MAX, |t| t + 4000),
-            What::Moved => 100_000,
+            What::Nothing => 1500,
+            What::Data => 2000,
+            What::Heard => 3000,
+            What::WrongTag => 4000,
+            What::Gone => 4500,
+            What::Here => 5000,
+            What::Back => 6000,
+            What::BadSettings => 40_000,
+            What::PathLost => 52_000,
+            What::PathFound => self.behind_start(1500),
+            What::Reply => self.behind_start(4000),
+            What::Moved => self.behind_start(14_500),
+            What::Late => 100_000,
             What::End => u64::MAX,
         }
+    }
+
+    /// An instant behind the start that opened an attempt; never, where none did.
+    fn behind_start(&self, d: u64) -> u64 {
+        self.started.map_or(u64::MAX, |t| t + d)
     }
 
     /// The next thing happens.
@@ -289,14 +380,33 @@ impl Tablet {
         match self.done {
             What::Nothing => {
                 self.done = What::Data;
-                self.hear(1, 1, "box 12: 431 ballots");
+                self.seal("box 12?");
             }
             What::Data => {
+                self.done = What::Heard;
+                self.worker_hears(1, 1, "box 12: 431 ballots");
+            }
+            What::Heard => {
                 // A frame with the tag of an epoch that is not held: the link refuses it and stays.
                 self.done = What::WrongTag;
                 self.hear(9, 2, "box 13: 220 ballots");
             }
             What::WrongTag => {
+                self.done = What::Gone;
+                self.worker_gone(1);
+            }
+            What::Gone => {
+                // No worker holds the epoch: the tablet opens its frames itself.
+                self.done = What::Here;
+                self.hear(1, 2, "box 13: 220 ballots");
+            }
+            What::Here => {
+                // The next poll offers the epoch again.
+                self.done = What::Back;
+                self.workers = true;
+                self.say("worker back");
+            }
+            What::Back => {
                 // Settings of an operator are tested before they are taken. These fail, and the old
                 // ones stay.
                 self.done = What::BadSettings;
@@ -307,21 +417,36 @@ impl Tablet {
                 }
             }
             What::BadSettings => {
+                // No start is called for until the path is found again.
+                self.done = What::PathLost;
+                self.path(false, None);
+            }
+            What::PathLost => {
+                self.done = What::PathFound;
+                self.path(true, Some(80));
+            }
+            What::PathFound => {
                 self.done = What::Reply;
                 self.answered();
             }
             What::Reply => {
                 self.done = What::Moved;
-                self.hear(2, 1, "box 13: 220 ballots");
+                self.worker_hears(2, 1, "box 14: 198 ballots");
             }
-            What::Moved | What::End => self.done = What::End,
+            What::Moved => {
+                // The worker has not read the REVOKE yet: its notice is accepted, and a reject in
+                // the log.
+                self.done = What::Late;
+                self.worker_hears(1, 3, "box 13: 221 ballots");
+            }
+            What::Late | What::End => self.done = What::End,
         }
     }
 
     /// The instant of the next poll: at once where one has work, else the wake; never within
     /// `check` of the last.
     fn look(&mut self) -> u64 {
-        let given = Given { cfg: &self.cfg, profile: &self.profile, now: self.now, workers: false };
+        let given = given!(self);
         let at = if quiet(&self.link, given, 0, 0) {
             let r = wake(&self.link, &self.cfg, &self.profile);
             self.accepted("wake", r).flatten().unwrap_or(u64::MAX)
@@ -339,13 +464,11 @@ impl Tablet {
             spread = 99; // a draw outside of its range, to show what becomes of it
         }
         self.say(format!("poll {}", self.polls));
-        let given = Given { cfg: &self.cfg, profile: &self.profile, now: self.now, workers: false };
+        let given = given!(self);
         let r = poll(&mut self.link, given, spread, extra, &mut self.log);
         // Also a refused poll counts: the next one comes a check later, with new draws.
         self.next = self.now + self.cfg.check;
-        if self.accepted("poll", r).is_some() {
-            self.carry_out();
-        }
+        self.then("poll", r);
     }
 }
 
@@ -358,6 +481,7 @@ fn main() -> Result<(), Refusal> {
         link: State::default(),
         log: Log::new(),
         frame: [0; 64],
+        workers: true,
         sealed: 0,
         tag: 1,
         next: 0,
@@ -371,10 +495,15 @@ fn main() -> Result<(), Refusal> {
         tries: 0,
         refused: 0,
         delivered: 0,
+        reported: 0,
     };
 
-    let o =
-        Opening { role: Role::Responder, transport: TRANSPORT, lease: Some(42), workers: false };
+    let o = Opening {
+        role: Role::Responder,
+        transport: TRANSPORT,
+        lease: Some(42),
+        workers: t.workers,
+    };
     let spread = t.spread();
     t.link = open(&t.cfg, &t.profile, o, spread, t.now, &mut t.log)?;
     t.say("open");
@@ -402,8 +531,8 @@ fn main() -> Result<(), Refusal> {
         line.quiet.unwrap_or(0)
     ));
     t.say(format!(
-        "{} polls, {} starts tried, {} calls refused, {} frames delivered",
-        t.polls, t.tries, t.refused, t.delivered
+        "{} polls, {} starts tried, {} calls refused, frames: {} delivered here, {} reported by the worker",
+        t.polls, t.tries, t.refused, t.delivered, t.reported
     ));
     Ok(())
 }

@@ -4,8 +4,8 @@
  * a program is built by
  *   cc -std=c11 -Wall -Wextra -Iinclude program.c target/staticlib/liblink.a -o program
  * The archive needs no library but the C library. examples/tablet.c is a whole program, with a loop that
- * sleeps by the wake, polls, answers a start, survives a refusal and delivers frames; examples/run builds
- * and runs it.
+ * sleeps by the wake, polls, answers a start, survives a refusal, delivers frames and tells what its receive
+ * worker and the path report; examples/run builds and runs it.
  *
  * Settings. Nobody types all 23: take the defaults and change what differs.
  *   siklyavon_config cfg = siklyavon_config_fmp();     for a link; siklyavon_config_fsp() for a session
@@ -20,9 +20,11 @@
  * of new epochs are numbers of the caller.
  *
  * Refusals. A call that is sent back has a number other than 0, a SIKLYAVON_REFUSED_. It tells no event
- * and writes to no log and no buffer. siklyavon_poll, siklyavon_frame, siklyavon_reply and siklyavon_sent
- * then give back the state that they were given; siklyavon_open, which was given none, gives a blank one
- * that is no link; siklyavon_wake and siklyavon_status, whose answers hold no state, show nothing.
+ * and writes to no log and no buffer. siklyavon_poll, siklyavon_frame, siklyavon_reply, siklyavon_sent and
+ * the notices then give back the state that they were given; siklyavon_open, which was given none, gives a
+ * blank one that is no link; siklyavon_wake and siklyavon_status, whose answers hold no state, show nothing.
+ * The notices are siklyavon_worker, siklyavon_delegated, siklyavon_undelegated, siklyavon_data_sent and
+ * siklyavon_path. A notice that does not fit the link is no refusal: it is accepted and tells a REJECT.
  *
  * Events. A log has room for SIKLYAVON_MAX_EVENTS events of eight words each. After a call the first `len`
  * places hold its events in order, to be carried out front to back: the event's number (a
@@ -33,8 +35,9 @@
  * Stack. What one call takes, in bytes, its arguments and its answer included: the most of many states,
  * measured with a painted stack on an AMD EPYC, the caller built by gcc 12.2 -O2 (tools/stack measures
  * again).
- *   poll 95456     frame 63328    reply 45632    sent 23200     status 11648
- *   wake 11552     open 11056     quiet 928      settings 208 */
+ *   poll 95456     frame 70352    reply 45632    sent 23200     status 11648
+ *   wake 11552     open 11056     quiet 928      settings 208
+ *   worker 65072   delegated and undelegated 33792   path 23056     data_sent 22864 */
 #ifndef SIKLYAVON_LINK_H
 #define SIKLYAVON_LINK_H
 
@@ -48,7 +51,7 @@ extern "C" {
 
 /* The version of what this file declares. It rises when a record, a number or a call changes. The calls
  * siklyavon_sample_... hold a caller's records to the library: tools/header compares every field. */
-#define SIKLYAVON_LAYOUT 1
+#define SIKLYAVON_LAYOUT 2
 
 /* ---- Sizes */
 
@@ -72,8 +75,9 @@ extern "C" {
 #define SIKLYAVON_EVENT_BIND 3               /* transport index has_tag tag purpose: route the index to this link */
 #define SIKLYAVON_EVENT_UNBIND 4             /* transport index: remove that binding */
 #define SIKLYAVON_EVENT_DELEGATE 5           /* tag transport index session has_floor floor: offer the receive half
-                                              * to a decrypt worker */
-#define SIKLYAVON_EVENT_REVOKE 6             /* tag transport index: withdraw the worker's copy */
+                                              * to a decrypt worker; one that takes it: siklyavon_delegated */
+#define SIKLYAVON_EVENT_REVOKE 6             /* tag transport index: withdraw the worker's copy, its epoch is retired;
+                                              * no notice answers it */
 #define SIKLYAVON_EVENT_RELEASE 7            /* index: give the lease back to the allocator */
 #define SIKLYAVON_EVENT_INSTALLED 8          /* tag role evidence: this epoch is current, seal under it */
 #define SIKLYAVON_EVENT_RETIRED 9            /* tag: discard this epoch's keys */
@@ -119,7 +123,8 @@ extern "C" {
 #define SIKLYAVON_EVIDENCE_DELAY 4   /* the deadline of a delayed cutover passed */
 #define SIKLYAVON_EVIDENCE_FIRST 5   /* the first handshake of a link */
 
-/* reason: why an input was rejected. This library tells two, 20 and 29. */
+/* reason: why an input was rejected. This library tells six: a frame 20, the notices of workers 23 to 26, a
+ * poll 29. */
 #define SIKLYAVON_REASON_EPOCH_CHANGED 0          /* a first message carried another startup epoch; not told */
 #define SIKLYAVON_REASON_ANSWERED_BEFORE 1        /* a copy of a first message that the replay record holds; not told */
 #define SIKLYAVON_REASON_OFF_LINK 2               /* a first message came another way than the reachable link; not told */
@@ -143,10 +148,10 @@ extern "C" {
 #define SIKLYAVON_REASON_SHORT_PLAINTEXT 20       /* a frame's plaintext is below the floor or does not fit */
 #define SIKLYAVON_REASON_DELEGATED_EPOCH 21       /* a frame for an epoch that a worker holds; not told */
 #define SIKLYAVON_REASON_NOT_ESTABLISHED 22       /* a frame or a completion before the link is established; not told */
-#define SIKLYAVON_REASON_STALE_TAG 23             /* a report names an epoch that is not held; not told */
-#define SIKLYAVON_REASON_NOT_DELEGATED 24         /* a report names an epoch that is not delegated; not told */
-#define SIKLYAVON_REASON_ALREADY_DELEGATED 25     /* a worker accepted a delegated epoch; not told */
-#define SIKLYAVON_REASON_NOT_OFFERED 26           /* a worker accepted the pending epoch; not told */
+#define SIKLYAVON_REASON_STALE_TAG 23             /* a worker's notice names an epoch that is not held */
+#define SIKLYAVON_REASON_NOT_DELEGATED 24         /* worker: a pending epoch; undelegated: one without a worker */
+#define SIKLYAVON_REASON_ALREADY_DELEGATED 25     /* delegated: a worker holds the epoch already */
+#define SIKLYAVON_REASON_NOT_OFFERED 26           /* delegated: the pending epoch, which is never offered */
 #define SIKLYAVON_REASON_ATTEMPT_IN_FLIGHT 27     /* an opening while the own first attempt is in flight; not told */
 #define SIKLYAVON_REASON_ALREADY_ESTABLISHED 28   /* an opening of an established session; not told */
 #define SIKLYAVON_REASON_CANDIDATE_EXPIRED 29     /* a candidate reached its deadline and was removed */
@@ -282,8 +287,8 @@ typedef struct siklyavon_epoch {
     uint64_t started;            /* when it became current, or was made; its age counts from here */
     siklyavon_when route;        /* the coordinates that the peer's handshake message carried; no call reads it */
     uint64_t ext;                /* a number of the caller; no call reads it */
-    bool delegated;              /* a decrypt worker holds the receive half, else it is here */
-    siklyavon_when floor;        /* the highest counter that a worker reported, told in DELEGATE */
+    bool delegated;              /* a decrypt worker holds the receive half, else it is here (siklyavon_delegated) */
+    siklyavon_when floor;        /* the highest counter that a worker reported (siklyavon_worker), told in DELEGATE */
     siklyavon_when heard;        /* the first frame of the peer under it */
     siklyavon_when moved;        /* the first frame that shows that the peer seals under it */
     bool assumed;                /* it became current at a confirmation deadline without evidence */
@@ -374,14 +379,14 @@ typedef struct siklyavon_memory {
     uint8_t abandons;            /* own attempts abandoned since the last cutover */
     siklyavon_when last_rx;      /* the last frame under any epoch */
     siklyavon_when rx_cur;       /* the last frame under the current epoch */
-    bool sent_data;              /* data was sealed since the last frame under the current epoch */
+    bool sent_data;              /* data was sealed (siklyavon_data_sent) since the last frame under the current epoch */
     uint8_t silence;             /* starts by silence since then: each doubles the interval */
     uint64_t link_since;         /* when the link began; a restart of the peer sets it anew */
     siklyavon_when last_cutover; /* the last cutover */
     siklyavon_when hs_rtt;       /* the round trip of a handshake, measured */
-    siklyavon_when srtt;         /* the session's smoothed round trip, measured by the caller */
+    siklyavon_when srtt;         /* the session's smoothed round trip, measured by the caller (siklyavon_path) */
     siklyavon_when setup_rto;    /* the first interval kept for the next setup, after one that was resent */
-    bool reachable;              /* there is a way to the peer: without one no start is called for */
+    bool reachable;              /* there is a way to the peer, else no start is called for (siklyavon_path) */
     bool due;                    /* a repair is due: a start, past the abandon backoff */
 } siklyavon_memory;
 
@@ -500,27 +505,24 @@ typedef struct siklyavon_shown {
  * Frames were sealed under the current     nothing: call siklyavon_sent with the epoch's whole count.
  * epoch, data or prompts.
  *
- * Data was sealed for the peer             mem.sent_data = true. A frame under the current epoch clears it.
- * [DataSent].
+ * Data was sealed for the peer             nothing: call siklyavon_data_sent. Its frame counts for
+ * [DataSent].                              siklyavon_sent too.
  *
- * The path changed, or the round trip      mem.reachable = there is a next hop; mem.srtt = the smoothed
- * was measured [PathFacts].                round trip, or absent. Both are written each time.
+ * The path changed, or the round trip      nothing: call siklyavon_path with both.
+ * was measured [PathFacts].
  *
  * A rekey is wanted now [no input: the     mem.due = true. A start is called for once the cycle is idle, no
  * Rust sets it for a repair].              last message is retained, the floors and dampening have passed
  *                                          and the peer is reachable; the abandon backoff does not hold it
  *                                          back. An opened start reply clears it.
  *
- * A worker took a receive half             delegated = true in cur.ep or drain.ep, whichever has the tag. A
- * [Delegated].                             pending epoch is never offered.
+ * A worker took a receive half             nothing: call siklyavon_delegated.
+ * [Delegated].
  *
- * That worker is gone [Undelegated].       delegated = false there. floor stays, so that the next offer tells
- *                                          the highest counter seen.
+ * That worker is gone [Undelegated].       nothing: call siklyavon_undelegated.
  *
- * A worker authenticated a frame           floor = { true, the greater of floor and the counter } in cur.ep
- * [WorkerFrame].                           or drain.ep. Then call siklyavon_frame with its slot, tag, counter
- *                                          and k, len 0 and probe off, and pass over that call's MARK and its
- *                                          DELIVER or REJECT: the worker did both.
+ * A worker authenticated a frame           nothing: call siklyavon_worker. The worker keeps the replay window
+ * [WorkerFrame].                           and hands the plaintext up.
  *
  * The own attempt's reply authenticated    R1 to R5 below.
  * while cycle.kind is INIT [Reply].
@@ -661,6 +663,60 @@ siklyavon_answer siklyavon_frame(siklyavon_state s, siklyavon_config cfg, siklya
 siklyavon_answer siklyavon_reply(siklyavon_state s, siklyavon_config cfg, siklyavon_profile profile,
                                  uint64_t time, siklyavon_start_reply r);
 
+/* ---- The five notices: what decrypt workers and the path tell
+ *
+ * Each takes what a poll takes but the extra, and fields of its own. The spread is tested and not used,
+ * workers is not read, and only siklyavon_worker reads the instant. None marks a counter, delivers, starts or
+ * offers, and none counts items. Refusals 1 to 7, in this order, as of a poll.
+ *
+ * A tag is looked up in the state that the call gets: the current epoch, the drained one, then the pending
+ * one. Where the notice does not fit it, the call is accepted, its one event is a REJECT with the reason, and
+ * the state stays. A worker runs beside the link, so its notice may come when the epoch is gone: STALE_TAG
+ * needs no answer. */
+
+/* A decrypt worker authenticated a frame of the peer under the epoch of the tag, with this key-epoch bit and
+ * counter; the counter has passed the worker's window, and the plaintext is the worker's to hand up. floor
+ * rises to the counter, if that is higher. Then the epoch is heard as in siklyavon_frame, the frame no probe:
+ * - the current one: no event.
+ * - the drained one: a current epoch that was assumed and not heard since goes back to pending, where no
+ *   other is pending: REVERTED, PROMPT, PROMPT, and before them UNBIND, RELEASE and ABANDONED of an own
+ *   attempt in flight. Under any other current epoch a PROMPT may be told. At most 6 events.
+ * An epoch that is received here is heard too. REJECT: STALE_TAG, the epoch is not held; NOT_DELEGATED, it
+ * is pending, also where a worker took it before it was REVERTED: only siklyavon_frame cuts over. */
+siklyavon_answer siklyavon_worker(siklyavon_state s, siklyavon_config cfg, siklyavon_profile p,
+                                  uint64_t time, bool workers, int32_t spread, uint64_t tag, bool k,
+                                  uint64_t counter, uint64_t log[SIKLYAVON_WORDS]);
+
+/* A decrypt worker accepted the receive copy of the epoch of the tag, as DELEGATE offered it: delegated goes
+ * on. While it is on no poll offers that epoch again, and a REVOKE is told where the epoch is retired and has
+ * a lease. Neither an offer nor a lease need have been there. REJECT: STALE_TAG, the epoch is not held;
+ * ALREADY_DELEGATED, a worker holds it; NOT_OFFERED, it is pending. At most 1 event. */
+siklyavon_answer siklyavon_delegated(siklyavon_state s, siklyavon_config cfg, siklyavon_profile p,
+                                     uint64_t time, bool workers, int32_t spread, uint64_t tag,
+                                     uint64_t log[SIKLYAVON_WORDS]);
+
+/* The decrypt worker that held the epoch of the tag is gone: delegated goes off, and frames of that epoch go
+ * to siklyavon_frame again. A poll with workers on offers it anew. floor stays, and that DELEGATE tells it:
+ * counters up to the floor were seen, and the caller and the next worker refuse them as replays. REJECT:
+ * STALE_TAG, the epoch is not held; NOT_DELEGATED, no worker holds it, or it is pending. At most 1 event. */
+siklyavon_answer siklyavon_undelegated(siklyavon_state s, siklyavon_config cfg, siklyavon_profile p,
+                                       uint64_t time, bool workers, int32_t spread, uint64_t tag,
+                                       uint64_t log[SIKLYAVON_WORDS]);
+
+/* Data of the application was sealed: mem.sent_data goes on, also without a current epoch. From then on, until
+ * the peer is heard under the current epoch, the silence trigger may call for a start. Prompts are no data,
+ * and the count of frames is told by siklyavon_sent. No event. */
+siklyavon_answer siklyavon_data_sent(siklyavon_state s, siklyavon_config cfg, siklyavon_profile p,
+                                     uint64_t time, bool workers, int32_t spread,
+                                     uint64_t log[SIKLYAVON_WORDS]);
+
+/* Whether there is a next hop to the peer, and the session's smoothed round trip in milliseconds. Both
+ * replace what is held: an absent srtt makes mem.srtt absent. While reachable is off no start is called for.
+ * No event. */
+siklyavon_answer siklyavon_path(siklyavon_state s, siklyavon_config cfg, siklyavon_profile p,
+                                uint64_t time, bool workers, int32_t spread, bool reachable,
+                                siklyavon_when srtt, uint64_t log[SIKLYAVON_WORDS]);
+
 /* The current epoch's sent count is told; without a current epoch nothing changes. The instant decides
  * nothing: like every call of a run this one is logged with it. Refusals 3 to 6 and 11. */
 siklyavon_answer siklyavon_sent(siklyavon_state s, uint64_t time, uint64_t count);
@@ -673,8 +729,8 @@ siklyavon_answer siklyavon_sent(siklyavon_state s, uint64_t time, uint64_t count
  * What is proved of it (crates/law_runs/specs/Runs.antt, wakes of Demand3): an accepted poll, with workers
  * off and an epoch, an attempt or a candidate held, has none of the four that siklyavon_quiet names where
  * the wake, taken for its state, settings and profile, is absent or later than its instant. This supposes
- * - that the poll stands in a list of polls, frames, start replies and told sent counts, refused ones
- *   included, each of which gets the state that the one before it left, and nobody else writes it;
+ * - that the poll stands in a list of polls, frames, start replies, notices and told sent counts, refused
+ *   ones included, each of which gets the state that the one before it left, and nobody else writes it;
  * - that the first state of the list is accepted (3 to 6), and its link start, last cutover and epoch
  *   starts are not after any instant of the list; after a write of the caller a new list begins;
  * - that in the list the clock never goes back, and each poll is later than the polls before it.
@@ -701,7 +757,7 @@ siklyavon_answer siklyavon_sent(siklyavon_state s, uint64_t time, uint64_t count
  *       // g has what a poll is given, extra 0. To do at once, at the wake, or not before another call:
  *       if (!siklyavon_quiet(&s, g, 0)) t = g.now;
  *       else { w = siklyavon_wake(s, g.cfg, g.profile); t = w.at.some ? w.at.at : NEVER; }
- *       // a frame that arrives or a count that is told ends the sleep: make that call, look again
+ *       // a frame that arrives, a notice or a count ends the sleep: make that call, look again
  *       g.now = sleep_until(max(t, next));
  *       r = siklyavon_poll(s, g.cfg, g.profile, g.now, g.workers, spread(), extra(), log);
  *       next = g.now + g.cfg.check;

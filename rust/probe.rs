@@ -165,6 +165,24 @@ unsafe fn answers() {
     assert!(h.len > 1);
     let r = siklyavon_reply(o.state, cfg, p, 2000, StartReply::default());
     assert_eq!((r.number, r.place, r.state, r.len, r.count), (10, 0, o.state, 0, 0));
+    // A worker takes the epoch, reports a frame and goes; then a worker of a tag that is not held.
+    let d = siklyavon_delegated(o.state, cfg, p, 2000, true, 0, 1, &mut log);
+    assert_eq!((d.number, d.place, d.state.cur.ep.delegated, d.len, d.count), (0, 0, true, 0, 0));
+    let w = siklyavon_worker(d.state, cfg, p, 2001, true, 0, 1, true, 6, &mut log);
+    assert_eq!((w.number, w.place, w.state.cur.ep.floor, w.len, w.count), (0, 0, When { some: true, at: 6 }, 0, 0));
+    let at = When { some: true, at: 2001 };
+    assert_eq!((w.state.mem.peer_k, w.state.mem.rx_cur), (Bit { some: true, on: true }, at));
+    let u = siklyavon_undelegated(w.state, cfg, p, 2002, true, 0, 1, &mut log);
+    assert_eq!((u.number, u.place, u.state.cur.ep.delegated, u.len, u.count), (0, 0, false, 0, 0));
+    let x = siklyavon_worker(o.state, cfg, p, 2001, true, 0, 2, true, 6, &mut log);
+    assert_eq!((x.number, x.state, x.len, log[0], log[1]), (0, o.state, 1, 14, 23));
+    let b = siklyavon_data_sent(o.state, cfg, p, 2000, false, 0, &mut log);
+    assert_eq!((b.number, b.place, b.state.mem.sent_data, b.len, b.count), (0, 0, true, 0, 0));
+    let srtt = When { some: true, at: 44 };
+    let q = siklyavon_path(o.state, cfg, p, 2000, false, 0, false, srtt, &mut log);
+    assert_eq!((q.number, q.place, q.state.mem.reachable, q.state.mem.srtt, q.len, q.count), (0, 0, false, srtt, 0, 0));
+    let back = siklyavon_path(o.state, cfg, p, 2000, false, 16, false, srtt, &mut log);
+    assert_eq!((back.number, back.state, back.len), (7, o.state, 0));
     let g = Given { cfg, profile: p, now: 2000, workers: false, extra: 0 };
     let j = u32::from(cfg.jitter);
     let least = -i32::from(cfg.jitter);

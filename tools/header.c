@@ -221,9 +221,79 @@ static void defaults(const siklyavon_config *c) {
     IS(c->arrival, false);
 }
 
+static uint64_t log[SIKLYAVON_WORDS];
+
+/* An accepted notice: no event but this reject, if any. */
+static void noticed(const siklyavon_answer *a, bool reject, uint64_t reason) {
+    IS(a->number, SIKLYAVON_ACCEPTED);
+    IS(a->place, 0);
+    IS(a->len, reject);
+    IS(a->count, 0);
+    if (!reject) return;
+    IS(log[0], SIKLYAVON_EVENT_REJECT);
+    IS(log[1], reason);
+    for (int i = 2; i < SIKLYAVON_WORDS_PER_EVENT; i++) IS(log[i], 0);
+}
+
+/* Each notice on a link with the current epoch 1: each argument arrives where the header has it. */
+static void notices(siklyavon_state s, siklyavon_config cfg, siklyavon_profile p) {
+    siklyavon_config bad = cfg;
+    bad.ttl = 0;
+    siklyavon_answer a = siklyavon_delegated(s, cfg, p, 2000, true, -cfg.jitter, 1, log);
+    noticed(&a, false, 0);
+    IS(a.state.cur.ep.delegated, true);
+    siklyavon_state with = a.state;
+    a = siklyavon_delegated(with, cfg, p, 2000, true, 0, 1, log);
+    noticed(&a, true, SIKLYAVON_REASON_ALREADY_DELEGATED);
+    a = siklyavon_delegated(s, bad, p, 2000, true, 0, 1, log);
+    IS(a.number, SIKLYAVON_REFUSED_SETTINGS);
+    IS(a.place, SIKLYAVON_PLACE_ZERO_TTL);
+
+    a = siklyavon_worker(with, cfg, p, 2001, true, cfg.jitter, 1, true, 6, log);
+    noticed(&a, false, 0);
+    WHEN(a.state.cur.ep.floor, 6);
+    WHEN(a.state.mem.rx_cur, 2001);
+    IS(a.state.mem.peer_k.some, true);
+    IS(a.state.mem.peer_k.on, true);
+    a = siklyavon_worker(with, cfg, p, 2001, true, 0, 2, true, 6, log);
+    noticed(&a, true, SIKLYAVON_REASON_STALE_TAG);
+    a = siklyavon_worker(with, cfg, p, 2001, true, cfg.jitter + 1, 1, true, 6, log);
+    IS(a.number, SIKLYAVON_REFUSED_DRAW);
+    IS(a.state.cur.ep.floor.some, false);
+
+    a = siklyavon_undelegated(with, cfg, p, 2002, true, 0, 1, log);
+    noticed(&a, false, 0);
+    IS(a.state.cur.ep.delegated, false);
+    a = siklyavon_undelegated(a.state, cfg, p, 2002, true, 0, 1, log);
+    noticed(&a, true, SIKLYAVON_REASON_NOT_DELEGATED);
+    s.cycle.kind = SIKLYAVON_CYCLE_PENDR;
+    s.cycle.pendr.ep.tag = 2;
+    a = siklyavon_delegated(s, cfg, p, 2000, true, 0, 2, log);
+    noticed(&a, true, SIKLYAVON_REASON_NOT_OFFERED);
+
+    a = siklyavon_data_sent(s, cfg, p, 2003, false, 0, log);
+    noticed(&a, false, 0);
+    IS(a.state.mem.sent_data, true);
+    a = siklyavon_data_sent(s, cfg, p, 2003, false, -cfg.jitter - 1, log);
+    IS(a.number, SIKLYAVON_REFUSED_DRAW);
+    IS(a.state.mem.sent_data, false);
+
+    siklyavon_when srtt = {true, 44}, absent = {false, 0};
+    a = siklyavon_path(s, cfg, p, 2004, false, 0, false, srtt, log);
+    noticed(&a, false, 0);
+    IS(a.state.mem.reachable, false);
+    WHEN(a.state.mem.srtt, 44);
+    a = siklyavon_path(a.state, cfg, p, 2004, false, 0, true, absent, log);
+    noticed(&a, false, 0);
+    IS(a.state.mem.reachable, true);
+    IS(a.state.mem.srtt.some, false);
+    a = siklyavon_path(s, cfg, p, 2004, false, cfg.jitter + 1, false, srtt, log);
+    IS(a.number, SIKLYAVON_REFUSED_DRAW);
+    IS(a.state.mem.srtt.some, false);
+}
+
 /* Calls whose answers are known: every field of each answer's record. */
 static void answers(void) {
-    static uint64_t log[SIKLYAVON_WORDS];
     siklyavon_config cfg = siklyavon_config_fmp(), session = siklyavon_config_fsp(), bad = cfg;
     defaults(&cfg);
     defaults(&session);
@@ -328,6 +398,8 @@ static void answers(void) {
     IS(a.state.cycle.init.out, 12);
     IS(a.state.cycle.init.transport, 13);
     INDEX(a.state.cycle.init.lease, 14);
+
+    notices(s, cfg, p);
 
     siklyavon_given g = {cfg, p, 2000, false, cfg.jitter};
     IS(siklyavon_quiet(&s, g, -cfg.jitter), true);

@@ -57,6 +57,27 @@ static void do_reply(void) {
     answer = siklyavon_reply(state, cfg, profile, now, opened);
 }
 
+static void do_worker(void) {
+    answer = siklyavon_worker(state, cfg, profile, now, given.workers, 0, proof.tag, proof.k, proof.counter, words);
+}
+
+static void do_delegated(void) {
+    answer = siklyavon_delegated(state, cfg, profile, now, given.workers, 0, proof.tag, words);
+}
+
+static void do_undelegated(void) {
+    answer = siklyavon_undelegated(state, cfg, profile, now, given.workers, 0, proof.tag, words);
+}
+
+static void do_data_sent(void) {
+    answer = siklyavon_data_sent(state, cfg, profile, now, given.workers, 0, words);
+}
+
+static void do_path(void) {
+    siklyavon_when srtt = {true, 44};
+    answer = siklyavon_path(state, cfg, profile, now, given.workers, 0, true, srtt, words);
+}
+
 static void do_sent(void) {
     answer = siklyavon_sent(state, now, state.cur.ep.sent + 1);
 }
@@ -87,6 +108,8 @@ static const struct { const char *name; void (*call)(void); } calls[] = {
     {"siklyavon_poll", do_poll},     {"siklyavon_frame", do_frame}, {"siklyavon_reply", do_reply},
     {"siklyavon_sent", do_sent},     {"siklyavon_wake", do_wake},   {"siklyavon_status", do_status},
     {"siklyavon_open", do_open},     {"siklyavon_quiet", do_quiet}, {"siklyavon_settings", do_settings},
+    {"siklyavon_worker", do_worker}, {"siklyavon_path", do_path},   {"siklyavon_data_sent", do_data_sent},
+    {"siklyavon_delegated", do_delegated},                          {"siklyavon_undelegated", do_undelegated},
 };
 enum { CALLS = sizeof calls / sizeof calls[0] };
 static size_t most[CALLS];
@@ -154,8 +177,11 @@ int main(void) {
                     state.cycle.pendi.wait = wait;
                     measure(70000);
                     measure(90000);
+                    /* Both with a worker, which a notice may report as gone. */
+                    state.cur.ep.delegated = state.drain.ep.delegated = true;
+                    measure(70000);
                 }
     }
-    for (int i = 0; i < CALLS; i++) printf("%-18s %6zu bytes\n", calls[i].name, most[i] - empty);
+    for (int i = 0; i < CALLS; i++) printf("%-21s %6zu bytes\n", calls[i].name, most[i] - empty);
     return 0;
 }

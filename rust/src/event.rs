@@ -45,9 +45,24 @@ numbered! {
     Evidence: u64 { Proof = 0, Frame = 1, Restart = 2, Assumed = 3, Delay = 4, First = 5 }
 }
 numbered! {
-    /// Why an input changed nothing, or only what its row names: the two reasons that these calls
+    /// Why an input changed nothing, or only what its row names: the six reasons that these calls
     /// give.
-    Reason: u64 { ShortPlaintext = 20, CandidateExpired = 29 }
+    Reason: u64 {
+        /// A frame's plaintext is below the profile's floor or does not fit. Told by [`crate::frame`].
+        ShortPlaintext = 20,
+        /// A worker's notice names an epoch that is not held, as when it was retired meanwhile. Told by
+        /// [`crate::worker`], [`crate::delegated`] and [`crate::undelegated`].
+        StaleTag = 23,
+        /// [`crate::worker`] names the pending epoch, which no worker holds, or [`crate::undelegated`]
+        /// one without a worker.
+        NotDelegated = 24,
+        /// [`crate::delegated`] names an epoch that a worker holds already.
+        AlreadyDelegated = 25,
+        /// [`crate::delegated`] names the pending epoch, which is never offered.
+        NotOffered = 26,
+        /// A candidate reached its deadline and was removed. Told by [`crate::poll`].
+        CandidateExpired = 29,
+    }
 }
 numbered! {
     /// Why an attempt or a held epoch was given up.
@@ -105,9 +120,10 @@ pub enum Event {
     /// The binding of an index on a transport is removed.
     Unbind { transport: u64, index: u64 },
     /// The receive half of an epoch is offered to a decrypt worker; the floor is the highest counter
-    /// that a lost worker reported.
+    /// that an earlier worker reported. A worker that takes it is told by [`crate::delegated`]; until
+    /// then each poll with workers on offers again.
     Delegate { tag: u64, transport: u64, index: u64, session: u64, floor: Option<u64> },
-    /// The worker's copy is withdrawn.
+    /// The worker's copy is withdrawn: its epoch is retired. No notice answers it.
     Revoke { tag: u64, transport: u64, index: u64 },
     /// A lease's index goes back to the allocator.
     Release { index: u64 },
@@ -121,7 +137,7 @@ pub enum Event {
     PeerRestarted { epoch: u64 },
     /// A cutover happened.
     Rekeyed { role: Role },
-    /// An input changed nothing, or only what its row names.
+    /// An input changed nothing, or only what its row names. The call that tells it was accepted.
     Reject(Reason),
     /// An attempt or a held epoch was given up.
     Abandoned(Abandon),

@@ -14,6 +14,19 @@
 //! table "What happens outside, and what to write for it" of include/siklyavon_link.h has the fields,
 //! whose names are the same here.
 //!
+//! | what happens | the call |
+//! |---|---|
+//! | a link begins | [`open`] |
+//! | its time comes | [`poll`], with [`wake`] and [`quiet`] to tell when |
+//! | a frame authenticated here | [`frame`] |
+//! | a START was answered | [`reply`] |
+//! | frames were sealed | [`sent`] |
+//! | a decrypt worker took a receive half, or is gone | [`delegated`], [`undelegated`] |
+//! | a worker authenticated a frame | [`worker`] |
+//! | data of the application was sealed | [`data_sent`] |
+//! | the path changed, or the round trip was measured | [`path`] |
+//! | the link line is to be shown | [`status`] |
+//!
 //! # Example
 //! A link is opened, handed a frame that authenticated, polled at its wake, and answers a START.
 //! ```
@@ -99,7 +112,7 @@
 //! loop {
 //!     // There is something to do at once, or at the wake, or not before another call is made.
 //!     let look = if quiet(&state, at, 0, 0) { wake(&state, &cfg, &profile)? } else { Some(at.now) };
-//!     // A frame that arrives or a count that is told ends the sleep: make that call, then look again.
+//!     // A frame, a notice or a count ends the sleep: make that call, then look again.
 //!     at.now = clock.sleep_until(look.map(|t| t.max(next)));
 //! #   if at.now > 601_000 { return Ok(()); }
 //! #   polls += 1;
@@ -123,6 +136,52 @@
 //! # };
 //! # run().expect("every call is accepted");
 //! # assert_eq!((polls, tries), (481, 12));
+//! ```
+//!
+//! # Decrypt workers
+//! A host may open frames on threads of its own. With workers on, [`open`] and every poll offer the
+//! receive half of each epoch that has a lease and no worker: [`Event::Delegate`]. The rest is told by
+//! notices, five calls that take what a poll takes but the extra.
+//! - [`delegated`]: a worker took the copy. No poll offers that epoch again, and its end is told as
+//!   [`Event::Revoke`].
+//! - [`worker`]: it authenticated a frame. The worker has the replay window and the plaintext, so
+//!   nothing is marked or delivered here; the link learns that the peer was heard.
+//! - [`undelegated`]: the worker is gone. Frames of the epoch go to [`frame`] again, and the next offer
+//!   tells the highest counter that was reported, so that no frame is taken twice.
+//! - [`data_sent`] and [`path`] tell of data that was sealed and of the way to the peer.
+//!
+//! A worker runs beside the link, and its notice may come too late. Such a notice is accepted and
+//! leaves the state; its one event is [`Event::Reject`] with a [`Reason`].
+//! ```
+//! use siklyavon_link::*;
+//!
+//! # fn main() -> Result<(), Refusal> {
+//! # let cfg = Config::fmp();
+//! # let profile = Profile { messages: 2, at_proof: false, silence: true, smaller: true, floor: 0 };
+//! # let mut log = Log::new();
+//! let opening = Opening { role: Role::Responder, transport: 7, lease: Some(42), workers: true };
+//! let mut state = open(&cfg, &profile, opening, 0, 1000, &mut log)?;
+//! let offer = Event::Delegate { tag: 1, transport: 7, index: 42, session: 0, floor: None };
+//! assert!(log.events().any(|e| e == offer));
+//!
+//! // A worker takes the copy, and authenticates a frame with counter 9.
+//! let at = Given { cfg: &cfg, profile: &profile, now: 1500, workers: true };
+//! delegated(&mut state, at, 0, 1, &mut log)?;
+//! worker(&mut state, Given { now: 2000, ..at }, 0, 1, false, 9, &mut log)?;
+//! assert_eq!(state.mem.last_rx.get(), Some(2000));
+//! assert!(quiet(&state, Given { now: 2000, ..at }, 0, 0));
+//!
+//! // The worker ends: the next poll offers the epoch again, from counter 9 on.
+//! undelegated(&mut state, Given { now: 3000, ..at }, 0, 1, &mut log)?;
+//! poll(&mut state, Given { now: 3000, ..at }, 0, 0, &mut log)?;
+//! let offer = Event::Delegate { tag: 1, transport: 7, index: 42, session: 0, floor: Some(9) };
+//! assert_eq!(log.events().collect::<Vec<_>>(), [offer]);
+//!
+//! // A notice for an epoch that is not held.
+//! worker(&mut state, Given { now: 3001, ..at }, 0, 8, false, 10, &mut log)?;
+//! assert_eq!(log.events().collect::<Vec<_>>(), [Event::Reject(Reason::StaleTag)]);
+//! # Ok(())
+//! # }
 //! ```
 mod event;
 pub mod raw;
@@ -485,6 +544,274 @@ pub fn reply(
     keep(&r, state)
 }
 
+/// A decrypt worker authenticated a frame of the peer under the epoch of `tag`, with the key-epoch bit
+/// `k` and `counter`.
+///
+/// Call it for each frame that a worker opened. The worker tests the counter and hands the plaintext
+/// up, so neither MARK nor DELIVER is told. The epoch's `floor` rises to the counter, if that is
+/// higher. Then the epoch is heard as in [`frame`]:
+/// - the current one: no event;
+/// - the drained one: a current epoch that was assumed and not heard since goes back to pending where
+///   no other is pending. REVERTED and two PROMPTs are told, and before them UNBIND, RELEASE and
+///   ABANDONED of an own attempt in flight. Under any other current epoch a PROMPT may be told.
+///
+/// At most 6 events, to be carried out as those of a poll. An epoch that is received here is heard
+/// too.
+///
+/// The rest is [`Event::Reject`], which leaves the state: [`Reason::StaleTag`] where no epoch that is
+/// held has the tag, [`Reason::NotDelegated`] where the pending one has it, also one that a worker took
+/// before it was REVERTED: only [`frame`] cuts over. `spread` is tested and not used. Refusals 1 to 7.
+///
+/// ```
+/// # use siklyavon_link::*;
+/// # fn main() -> Result<(), Refusal> {
+/// # let (cfg, mut log) = (Config::fmp(), Log::new());
+/// # let profile = Profile { messages: 2, at_proof: false, silence: true, smaller: true, floor: 0 };
+/// # let o = Opening { role: Role::Responder, transport: 7, lease: Some(42), workers: true };
+/// # let mut state = open(&cfg, &profile, o, 0, 1000, &mut log)?;
+/// # let at = Given { cfg: &cfg, profile: &profile, now: 2000, workers: true };
+/// # delegated(&mut state, at, 0, 1, &mut log)?;
+/// // Two frames under epoch 1, the second with a lower counter: the floor stays.
+/// for (now, counter) in [(2000, 9), (2001, 7)] {
+///     worker(&mut state, Given { now, ..at }, 0, 1, true, counter, &mut log)?;
+///     assert!(log.is_empty());
+///     assert_eq!(state.cur.ep.floor.get(), Some(9));
+/// }
+/// assert_eq!(state.mem.rx_cur.get(), Some(2001));
+/// # Ok(())
+/// # }
+/// ```
+pub fn worker(
+    state: &mut State,
+    given: Given<'_>,
+    spread: i32,
+    tag: u64,
+    k: bool,
+    counter: u64,
+    log: &mut Log,
+) -> Result<(), Refusal> {
+    // SAFETY: as in `open`.
+    let r = unsafe {
+        raw::siklyavon_worker(
+            *state,
+            *given.cfg,
+            *given.profile,
+            given.now,
+            given.workers,
+            spread,
+            tag,
+            k,
+            counter,
+            &mut log.words,
+        )
+    };
+    log.len = r.len;
+    keep(&r, state)
+}
+
+/// A decrypt worker accepted the receive copy of the epoch of `tag`.
+///
+/// Call it when a worker took what [`Event::Delegate`] offered: until then each poll with workers on
+/// offers the epoch again. From now on its frames come by [`worker`], and [`Event::Revoke`] is told
+/// when it is retired, where it has a lease. A cutover leaves the worker its epoch, which is then
+/// drained.
+///
+/// Nothing is told where the notice fits, and neither an offer nor a lease need have been there. The
+/// rest is [`Event::Reject`], which leaves the state: [`Reason::StaleTag`] where no epoch that is held
+/// has the tag, so the worker may drop its copy; [`Reason::AlreadyDelegated`] where a worker holds the
+/// epoch; [`Reason::NotOffered`] where the epoch is pending. `spread` is tested and not used. Refusals
+/// 1 to 7.
+///
+/// ```
+/// # use siklyavon_link::*;
+/// # fn main() -> Result<(), Refusal> {
+/// # let (cfg, mut log) = (Config::fmp(), Log::new());
+/// # let profile = Profile { messages: 2, at_proof: false, silence: true, smaller: true, floor: 0 };
+/// # let o = Opening { role: Role::Responder, transport: 7, lease: Some(42), workers: true };
+/// # let mut state = open(&cfg, &profile, o, 0, 1000, &mut log)?;
+/// # let at = Given { cfg: &cfg, profile: &profile, now: 2000, workers: true };
+/// delegated(&mut state, at, 0, 1, &mut log)?;
+/// assert!(state.cur.ep.delegated && log.is_empty());
+///
+/// // A second worker comes too late.
+/// delegated(&mut state, at, 0, 1, &mut log)?;
+/// assert_eq!(log.events().next(), Some(Event::Reject(Reason::AlreadyDelegated)));
+/// # Ok(())
+/// # }
+/// ```
+pub fn delegated(
+    state: &mut State,
+    given: Given<'_>,
+    spread: i32,
+    tag: u64,
+    log: &mut Log,
+) -> Result<(), Refusal> {
+    // SAFETY: as in `open`.
+    let r = unsafe {
+        raw::siklyavon_delegated(
+            *state,
+            *given.cfg,
+            *given.profile,
+            given.now,
+            given.workers,
+            spread,
+            tag,
+            &mut log.words,
+        )
+    };
+    log.len = r.len;
+    keep(&r, state)
+}
+
+/// The decrypt worker that held the epoch of `tag` is gone.
+///
+/// Call it when a worker ends or drops its copy without a REVOKE. Frames of the epoch go to [`frame`]
+/// again, and the next poll with workers on offers it anew. The epoch's `floor` stays, and that offer
+/// tells it. Counters up to the floor were seen by the worker: the caller, and the next worker, refuse
+/// them as replays.
+///
+/// Nothing is told where the notice fits. The rest is [`Event::Reject`], which leaves the state:
+/// [`Reason::StaleTag`] where no epoch that is held has the tag, [`Reason::NotDelegated`] where no
+/// worker holds the epoch, which is so of a pending one. `spread` is tested and not used. Refusals 1
+/// to 7.
+///
+/// ```
+/// # use siklyavon_link::*;
+/// # fn main() -> Result<(), Refusal> {
+/// # let (cfg, mut log) = (Config::fmp(), Log::new());
+/// # let profile = Profile { messages: 2, at_proof: false, silence: true, smaller: true, floor: 0 };
+/// # let o = Opening { role: Role::Responder, transport: 7, lease: Some(42), workers: true };
+/// # let mut state = open(&cfg, &profile, o, 0, 1000, &mut log)?;
+/// # let at = Given { cfg: &cfg, profile: &profile, now: 2000, workers: true };
+/// # delegated(&mut state, at, 0, 1, &mut log)?;
+/// # worker(&mut state, at, 0, 1, false, 9, &mut log)?;
+/// // The worker of epoch 1 had reported counter 9.
+/// undelegated(&mut state, at, 0, 1, &mut log)?;
+/// assert!(!state.cur.ep.delegated && log.is_empty());
+/// assert_eq!(state.cur.ep.floor.get(), Some(9));
+/// # Ok(())
+/// # }
+/// ```
+pub fn undelegated(
+    state: &mut State,
+    given: Given<'_>,
+    spread: i32,
+    tag: u64,
+    log: &mut Log,
+) -> Result<(), Refusal> {
+    // SAFETY: as in `open`.
+    let r = unsafe {
+        raw::siklyavon_undelegated(
+            *state,
+            *given.cfg,
+            *given.profile,
+            given.now,
+            given.workers,
+            spread,
+            tag,
+            &mut log.words,
+        )
+    };
+    log.len = r.len;
+    keep(&r, state)
+}
+
+/// Data of the application was sealed for the peer.
+///
+/// Call it when data goes out, beside [`sent`], which tells how many frames were sealed; prompts are no
+/// data. From then on, until the peer is heard under the current epoch, a link with the silence trigger
+/// ([`Profile::silence`]) calls for a start once nothing was heard for [`Config::silence`]. So the wake
+/// may come sooner: look again.
+///
+/// No event, also without a current epoch. `spread` is tested and not used. Refusals 1 to 7.
+///
+/// ```
+/// # use siklyavon_link::*;
+/// # fn main() -> Result<(), Refusal> {
+/// # let (cfg, mut log) = (Config::fmp(), Log::new());
+/// # let profile = Profile { messages: 2, at_proof: false, silence: true, smaller: true, floor: 0 };
+/// # let o = Opening { role: Role::Responder, transport: 7, lease: Some(42), workers: false };
+/// # let mut state = open(&cfg, &profile, o, 0, 1000, &mut log)?;
+/// # let at = Given { cfg: &cfg, profile: &profile, now: 2000, workers: false };
+/// assert_eq!(wake(&state, &cfg, &profile)?, Some(121_000));
+/// data_sent(&mut state, at, 0, &mut log)?;
+/// assert_eq!(wake(&state, &cfg, &profile)?, Some(32_000));
+/// # Ok(())
+/// # }
+/// ```
+pub fn data_sent(
+    state: &mut State,
+    given: Given<'_>,
+    spread: i32,
+    log: &mut Log,
+) -> Result<(), Refusal> {
+    // SAFETY: as in `open`.
+    let r = unsafe {
+        raw::siklyavon_data_sent(
+            *state,
+            *given.cfg,
+            *given.profile,
+            given.now,
+            given.workers,
+            spread,
+            &mut log.words,
+        )
+    };
+    log.len = r.len;
+    keep(&r, state)
+}
+
+/// Whether there is a next hop to the peer, and the session's smoothed round trip in milliseconds.
+///
+/// Call it when the way to the peer is lost or found, and when the round trip was measured. Both replace
+/// what is held: `None` makes the round trip absent. While the peer is not reachable no start is called
+/// for. The longer of the round trip and `mem.hs_rtt` sets the first resend of a setup and the grace
+/// after a probe.
+///
+/// No event. `spread` is tested and not used. Refusals 1 to 7.
+///
+/// ```
+/// # use siklyavon_link::*;
+/// # fn main() -> Result<(), Refusal> {
+/// # let (cfg, mut log) = (Config::fmp(), Log::new());
+/// # let profile = Profile { messages: 2, at_proof: false, silence: true, smaller: true, floor: 0 };
+/// # let o = Opening { role: Role::Responder, transport: 7, lease: Some(42), workers: false };
+/// # let mut state = open(&cfg, &profile, o, 0, 1000, &mut log)?;
+/// let at = Given { cfg: &cfg, profile: &profile, now: 121_000, workers: false };
+/// path(&mut state, at, 0, false, None, &mut log)?;
+/// assert!(quiet(&state, at, 0, 0)); // no way to the peer: the start that is due waits
+/// path(&mut state, at, 0, true, Some(80), &mut log)?;
+/// poll(&mut state, at, 0, 0, &mut log)?;
+/// assert_eq!(log.events().next(), Some(Event::Start(Start::Scheduled)));
+/// # Ok(())
+/// # }
+/// ```
+pub fn path(
+    state: &mut State,
+    given: Given<'_>,
+    spread: i32,
+    reachable: bool,
+    srtt: Option<u64>,
+    log: &mut Log,
+) -> Result<(), Refusal> {
+    // SAFETY: as in `open`.
+    let r = unsafe {
+        raw::siklyavon_path(
+            *state,
+            *given.cfg,
+            *given.profile,
+            given.now,
+            given.workers,
+            spread,
+            reachable,
+            srtt.into(),
+            &mut log.words,
+        )
+    };
+    log.len = r.len;
+    keep(&r, state)
+}
+
 /// How many frames were sealed under the current epoch, told at an instant. Without a current epoch it
 /// changes nothing. The instant decides nothing: like every call of a run this one is logged with it.
 /// Refusals 3 to 6 and 11.
@@ -503,8 +830,8 @@ pub fn sent(state: &mut State, now: u64, count: u64) -> Result<(), Refusal> {
 /// workers off and an epoch, an attempt or a candidate held, has none of the four that [`Watch::quiet`]
 /// names where the wake, taken for its state, settings and profile, is absent or later than its
 /// instant. This supposes that
-/// - the poll stands in a list of polls, frames, start replies and told sent counts, refused ones
-///   included, each of which gets the state that the one before it left, and nobody else writes it;
+/// - the poll stands in a list of polls, frames, start replies, notices and told sent counts, refused
+///   ones included, each of which gets the state that the one before it left, and nobody else writes it;
 /// - the first state of the list is accepted (numbers 3 to 6), and its link start, last cutover and
 ///   epoch starts are not after any instant of the list; after a write of the caller a new list begins;
 /// - in the list the clock never goes back, and each poll is later than the polls before it.

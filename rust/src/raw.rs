@@ -119,9 +119,9 @@ pub struct Epoch {
     pub route: When,
     /// A number of the caller; no call reads it.
     pub ext: u64,
-    /// A decrypt worker holds the receive half, else it is here.
+    /// A decrypt worker holds the receive half, else it is here ([`crate::delegated`]).
     pub delegated: bool,
-    /// The highest counter that a lost decrypt worker reported.
+    /// The highest counter that a decrypt worker reported ([`crate::worker`]), told in DELEGATE.
     pub floor: When,
     /// The first authenticated frame from the peer under this epoch.
     pub heard: When,
@@ -287,7 +287,7 @@ pub struct Memory {
     pub last_rx: When,
     /// The last authenticated frame under the current epoch.
     pub rx_cur: When,
-    /// Data was sealed since the last current-epoch frame from the peer.
+    /// Data was sealed ([`crate::data_sent`]) since the last current-epoch frame from the peer.
     pub sent_data: bool,
     /// Starts by silence since then: each doubles the interval.
     pub silence: u8,
@@ -297,11 +297,11 @@ pub struct Memory {
     pub last_cutover: When,
     /// The round trip of a handshake, measured.
     pub hs_rtt: When,
-    /// The session's smoothed round trip, measured by the caller.
+    /// The session's smoothed round trip, measured by the caller ([`crate::path`]).
     pub srtt: When,
     /// The kept backoff for the rekey setup's first rung.
     pub setup_rto: When,
-    /// There is a way to the peer: without one no start is called for.
+    /// There is a way to the peer, else no start is called for ([`crate::path`]).
     pub reachable: bool,
     /// A repair rekey is due.
     pub due: bool,
@@ -550,6 +550,58 @@ extern "C" {
         profile: Profile,
         time: u64,
         r: StartReply,
+    ) -> Answer;
+    pub fn siklyavon_worker(
+        s: State,
+        cfg: Config,
+        p: Profile,
+        time: u64,
+        workers: bool,
+        spread: i32,
+        tag: u64,
+        k: bool,
+        counter: u64,
+        log: &mut [u64; WORDS],
+    ) -> Answer;
+    pub fn siklyavon_delegated(
+        s: State,
+        cfg: Config,
+        p: Profile,
+        time: u64,
+        workers: bool,
+        spread: i32,
+        tag: u64,
+        log: &mut [u64; WORDS],
+    ) -> Answer;
+    pub fn siklyavon_undelegated(
+        s: State,
+        cfg: Config,
+        p: Profile,
+        time: u64,
+        workers: bool,
+        spread: i32,
+        tag: u64,
+        log: &mut [u64; WORDS],
+    ) -> Answer;
+    pub fn siklyavon_data_sent(
+        s: State,
+        cfg: Config,
+        p: Profile,
+        time: u64,
+        workers: bool,
+        spread: i32,
+        log: &mut [u64; WORDS],
+    ) -> Answer;
+    pub fn siklyavon_path(
+        s: State,
+        cfg: Config,
+        p: Profile,
+        time: u64,
+        workers: bool,
+        spread: i32,
+        reachable: bool,
+        srtt: When,
+        log: &mut [u64; WORDS],
     ) -> Answer;
     pub fn siklyavon_sent(s: State, time: u64, count: u64) -> Answer;
     pub fn siklyavon_wake(s: State, cfg: Config, p: Profile) -> Woke;

@@ -261,6 +261,18 @@ fn refusals() {
     assert_eq!(h.list("refused"), answered);
 }
 
+/// `siklyavon_delegated` and `siklyavon_undelegated`.
+type Notice = unsafe extern "C" fn(
+    State,
+    Config,
+    Profile,
+    u64,
+    bool,
+    i32,
+    u64,
+    &mut [u64; WORDS],
+) -> raw::Answer;
+
 /// What was told in real logs, by the header's names.
 struct Told<'h> {
     h: &'h Header,
@@ -302,6 +314,14 @@ impl Told<'_> {
                 &mut self.words,
             )
         };
+        assert_eq!(r.number, 0);
+        self.len = r.len;
+    }
+
+    /// A worker's notice about the epoch of a tag; the events are kept.
+    fn notice(&mut self, s: &State, tag: u64, notice: Notice) {
+        // SAFETY: the log is lent for the call.
+        let r = unsafe { notice(*s, Config::fmp(), PROFILE, 2000, true, 0, tag, &mut self.words) };
         assert_eq!(r.number, 0);
         self.len = r.len;
     }
@@ -380,6 +400,19 @@ fn events() {
     s.cands.len = 1;
     t.poll(&s, &PROFILE, 2000, false);
     t.has("EVENT_REJECT", &["REASON_CANDIDATE_EXPIRED"]);
+
+    // Notices that do not fit: no such epoch, one without a worker, one with a worker, a pending one.
+    let mut s = fresh;
+    t.notice(&s, 2, raw::siklyavon_delegated);
+    t.has("EVENT_REJECT", &["REASON_STALE_TAG"]);
+    t.notice(&s, 1, raw::siklyavon_undelegated);
+    t.has("EVENT_REJECT", &["REASON_NOT_DELEGATED"]);
+    s.cur.ep.delegated = true;
+    t.notice(&s, 1, raw::siklyavon_delegated);
+    t.has("EVENT_REJECT", &["REASON_ALREADY_DELEGATED"]);
+    (s.cycle.kind, s.cycle.pendr.ep.tag) = (kind("CYCLE_PENDR"), 2);
+    t.notice(&s, 2, raw::siklyavon_delegated);
+    t.has("EVENT_REJECT", &["REASON_NOT_OFFERED"]);
 
     // A peer's completed attempt at its deadline, and adopted by a frame.
     let mut s = fresh;
@@ -509,7 +542,7 @@ fn version() {
         .fold(0xcbf2_9ce4_8422_2325_u64, |n, b| (n ^ u64::from(b)).wrapping_mul(0x100_0000_01b3));
     assert_eq!(
         (h.of("LAYOUT"), format!("{number:016x}").as_str()),
-        (1, "9422cfd67bdcd9a0"),
+        (2, "41acc7f5d1e86693"),
         "the declarations changed: raise SIKLYAVON_LAYOUT, and write both numbers here"
     );
 }

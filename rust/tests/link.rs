@@ -85,6 +85,227 @@ fn sent_back() {
     assert_eq!(s, held);
 }
 
+/// A notice as a call, whichever it is.
+type Notice = fn(&mut State, Given<'_>, i32, &mut Log) -> Result<(), Refusal>;
+
+/// The five, about the epoch of tag 1 where they name one. Each changes the state of `held`.
+const NOTICES: [(&str, Notice); 5] = [
+    ("worker", |s, at, spread, log| worker(s, at, spread, 1, true, 9, log)),
+    ("delegated", |s, at, spread, log| delegated(s, at, spread, 1, log)),
+    ("undelegated", |s, at, spread, log| undelegated(s, at, spread, 2, log)),
+    ("data_sent", |s, at, spread, log| data_sent(s, at, spread, log)),
+    ("path", |s, at, spread, log| path(s, at, spread, false, Some(44), log)),
+];
+
+/// An epoch in each slot: 1 current, 2 drained and with a worker, 3 pending.
+fn held(cfg: &Config, log: &mut Log) -> State {
+    let mut s = opened(cfg, log);
+    s.drain = Drain { some: true, ep: s.cur.ep, deadline: 90_000, evidenced: false };
+    (s.drain.ep.tag, s.drain.ep.delegated) = (2, true);
+    s.cycle.kind = CycleKind::PendR.number();
+    (s.cycle.pendr.ep.tag, s.cycle.pendr.deadline) = (3, 90_000);
+    s
+}
+
+/// Each notice is sent back by 1 to 7, in this order, and leaves state and log.
+#[test]
+fn notices_sent_back() {
+    let (cfg, mut log) = (Config::fmp(), Log::new());
+    let state = held(&cfg, &mut log);
+    type Change = fn(&mut State, &mut Config, &mut Profile, &mut i32);
+    let tests: [Change; 7] = [
+        |_, cfg, _, _| cfg.ttl = 0,
+        |_, _, profile, _| profile.floor = 65,
+        |s, _, _, _| s.cands.len = 33,
+        |s, _, _, _| s.cur.some = false,
+        |s, _, _, _| s.drain.ep.tag = s.cycle.pendr.ep.tag,
+        |s, _, _, _| (s.drain.ep.fin.some, s.drain.ep.fin.ladder.next) = (true, 1),
+        |_, _, _, spread| *spread = 16,
+    ];
+    for (name, notice) in NOTICES {
+        for first in 0..tests.len() {
+            // This test fails, and every later one.
+            let (mut before, mut cfg, mut profile, mut spread) = (state, cfg, PROFILE, 0);
+            for change in &tests[first..] {
+                change(&mut before, &mut cfg, &mut profile, &mut spread);
+            }
+            let mut s = before;
+            let at = Given { cfg: &cfg, profile: &profile, now: 2000, workers: true };
+            let r = notice(&mut s, at, spread, &mut log).expect_err(name);
+            let place = if first == 0 { Place::ZeroTtl.number() } else { 0 };
+            assert_eq!((usize::from(r.number), r.place), (first + 1, place), "{name}");
+            assert_eq!((s, log.len()), (before, 0), "{name}");
+        }
+        for spread in [i32::MIN, -16, 16, i32::MAX] {
+            let mut s = state;
+            let r = notice(&mut s, at(&cfg, 2000), spread, &mut log).expect_err(name);
+            assert_eq!((r.number, s), (7, state), "{name}");
+        }
+        // In range no spread changes the answer, and the worker flag never does.
+        let mut first = state;
+        notice(&mut first, at(&cfg, 2000), -15, &mut log).expect("accepted");
+        assert_ne!(first, state, "{name}");
+        for workers in [false, true] {
+            let mut s = state;
+            let at = Given { workers, ..at(&cfg, 2000) };
+            notice(&mut s, at, 15, &mut log).expect("accepted");
+            assert_eq!((s, log.len()), (first, 0), "{name}");
+        }
+    }
+}
+
+/// No word of a log that is lent to a notice which is sent back is written.
+#[test]
+fn notices_leave_the_log() {
+    let (cfg, mut log) = (Config::fmp(), Log::new());
+    let s = held(&cfg, &mut log);
+    let mut words = [7; raw::WORDS];
+    let absent = When::default();
+    // SAFETY: the log is lent for the calls.
+    let back = unsafe {
+        [
+            raw::siklyavon_worker(s, cfg, PROFILE, 2000, true, 16, 9, true, 9, &mut words),
+            raw::siklyavon_delegated(s, cfg, PROFILE, 2000, true, 16, 9, &mut words),
+            raw::siklyavon_undelegated(s, cfg, PROFILE, 2000, true, 16, 9, &mut words),
+            raw::siklyavon_data_sent(s, cfg, PROFILE, 2000, true, 16, &mut words),
+            raw::siklyavon_path(s, cfg, PROFILE, 2000, true, 16, false, absent, &mut words),
+        ]
+    };
+    for r in back {
+        assert_eq!((r.number, r.place, r.state, r.len, r.count), (7, 0, s, 0, 0));
+    }
+    assert_eq!(words, [7; raw::WORDS]);
+}
+
+/// A notice that does not fit is accepted, tells its reason and leaves the state.
+#[test]
+fn notices_rejected() {
+    let (cfg, mut log) = (Config::fmp(), Log::new());
+    let s = held(&cfg, &mut log);
+    let mut own = s;
+    own.cycle.kind = CycleKind::PendI.number();
+    (own.cycle.pendi.ep.tag, own.cycle.pendi.deadline) = (3, 90_000);
+    use Reason::{AlreadyDelegated, NotDelegated, NotOffered, StaleTag};
+    // A tag that is not held, the current, the drained and the pending epoch's.
+    for (tag, heard, took, gone) in [
+        (8, Some(StaleTag), Some(StaleTag), Some(StaleTag)),
+        (1, None, None, Some(NotDelegated)),
+        (2, None, Some(AlreadyDelegated), None),
+        (3, Some(NotDelegated), Some(NotOffered), Some(NotDelegated)),
+    ] {
+        for before in [s, own] {
+            let mut is = |reason: Option<Reason>, notice: &dyn Fn(&mut State, &mut Log)| {
+                let mut s = before;
+                notice(&mut s, &mut log);
+                let events: Vec<Event> = reason.into_iter().map(Event::Reject).collect();
+                assert_eq!((told(&log), s == before), (events, reason.is_some()), "tag {tag}");
+            };
+            let at = at(&cfg, 2000);
+            is(heard, &|s, log| worker(s, at, 0, tag, false, 9, log).expect("accepted"));
+            is(took, &|s, log| delegated(s, at, 0, tag, log).expect("accepted"));
+            is(gone, &|s, log| undelegated(s, at, 0, tag, log).expect("accepted"));
+        }
+    }
+    // What stands behind a flag or a kind that is off is not held.
+    let (mut bare, mut log) = (State::default(), Log::new());
+    bare.cycle.pendr.ep.tag = 3;
+    delegated(&mut bare, at(&cfg, 2000), 0, 3, &mut log).expect("accepted");
+    assert_eq!(told(&log), [Event::Reject(StaleTag)]);
+    delegated(&mut bare, at(&cfg, 2000), 0, 0, &mut log).expect("accepted");
+    assert_eq!(told(&log), [Event::Reject(StaleTag)]);
+}
+
+/// A worker takes an epoch, is revoked where it is retired, and leaves its floor to the next offer.
+#[test]
+fn workers_come_and_go() {
+    let (cfg, mut log) = (Config::fmp(), Log::new());
+    let mut s = opened(&cfg, &mut log);
+    let on = |now| Given { workers: true, ..at(&cfg, now) };
+    let offer = |floor| [Event::Delegate { tag: 1, transport: 7, index: 9, session: 0, floor }];
+    for now in [2000, 2001] {
+        poll(&mut s, on(now), 0, 0, &mut log).expect("accepted");
+        assert_eq!(told(&log), offer(None));
+    }
+    delegated(&mut s, on(2001), 0, 1, &mut log).expect("accepted");
+    assert!(s.cur.ep.delegated && log.is_empty() && quiet(&s, on(2002), 0, 0));
+
+    // Counters in any order: the floor is the highest.
+    let mut heard = s;
+    for (now, k, counter, floor) in [(3000, true, 9, 9), (3001, false, 4, 9), (3002, true, 9, 9)] {
+        worker(&mut heard, on(now), 0, 1, k, counter, &mut log).expect("accepted");
+        assert_eq!((told(&log), heard.cur.ep.floor.get()), (vec![], Some(floor)));
+        assert_eq!((heard.mem.last_rx.get(), heard.mem.rx_cur.get()), (Some(now), Some(now)));
+        assert_eq!(heard.mem.peer_k, Bit { some: true, on: k });
+    }
+    // It is heard as a frame is, but for the floor.
+    let mut as_frame = s;
+    for (now, k) in [(3000, true), (3001, false), (3002, true)] {
+        let proof = FrameProof { tag: 1, counter: 9, k, ..FrameProof::default() };
+        frame(&mut as_frame, on(now), 0, proof, 0, &[], &mut [], &mut log).expect("accepted");
+    }
+    as_frame.cur.ep.floor = Some(9).into();
+    assert_eq!(heard, as_frame);
+
+    undelegated(&mut heard, on(4000), 0, 1, &mut log).expect("accepted");
+    assert!(!heard.cur.ep.delegated && log.is_empty());
+    poll(&mut heard, on(4000), 0, 0, &mut log).expect("accepted");
+    assert_eq!(told(&log), offer(Some(9)));
+    // An epoch that is received here is heard too.
+    worker(&mut heard, on(4001), 0, 1, true, u64::MAX, &mut log).expect("accepted");
+    assert_eq!((told(&log), heard.cur.ep.floor.get()), (vec![], Some(u64::MAX)));
+
+    // The drained epoch's worker is revoked at its deadline.
+    let mut s = held(&cfg, &mut log);
+    s.cycle.kind = CycleKind::Idle.number();
+    poll(&mut s, on(90_000), 0, 0, &mut log).expect("accepted");
+    assert!(told(&log).contains(&Event::Revoke { tag: 2, transport: 7, index: 9 }));
+}
+
+/// A worker's frame under the drained epoch reverts an epoch that was only assumed: 6 events, the most
+/// that a notice tells.
+#[test]
+fn worker_reverts() {
+    let (cfg, mut log) = (Config::fmp(), Log::new());
+    let mut s = held(&cfg, &mut log);
+    s.cur.ep.assumed = true;
+    s.cycle.kind = CycleKind::Init.number();
+    (s.cycle.init.lease, s.cycle.init.transport) = (Some(5).into(), 6);
+    worker(&mut s, at(&cfg, 2000), 0, 2, false, 9, &mut log).expect("accepted");
+    let events = [
+        Event::Unbind { transport: 6, index: 5 },
+        Event::Release { index: 5 },
+        Event::Abandoned(Abandon::Reverted),
+        Event::Reverted { tag: 1 },
+        Event::Prompt { tag: 1 },
+        Event::Prompt { tag: 2 },
+    ];
+    assert_eq!(told(&log), events);
+    assert_eq!((s.cur.ep.tag, s.cur.ep.floor.get(), s.drain.some), (2, Some(9), false));
+    assert_eq!((CycleKind::of(s.cycle.kind), s.cycle.pendi.ep.tag), (Some(CycleKind::PendI), 1));
+}
+
+/// Data starts the silence trigger, and no start is called for while there is no way to the peer.
+#[test]
+fn data_and_path() {
+    let (cfg, mut log) = (Config::fmp(), Log::new());
+    let mut s = opened(&cfg, &mut log);
+    assert!(quiet(&s, at(&cfg, 40_000), 0, 0));
+    data_sent(&mut s, at(&cfg, 2000), 0, &mut log).expect("accepted");
+    assert_eq!((log.len(), wake(&s, &cfg, &PROFILE)), (0, Ok(Some(32_000))));
+    path(&mut s, at(&cfg, 3000), 0, false, Some(44), &mut log).expect("accepted");
+    assert_eq!((log.len(), s.mem.reachable, s.mem.srtt.get()), (0, false, Some(44)));
+    assert!(quiet(&s, at(&cfg, 40_000), 0, 0));
+    path(&mut s, at(&cfg, 4000), 0, true, None, &mut log).expect("accepted");
+    assert_eq!((log.len(), s.mem.reachable, s.mem.srtt.get()), (0, true, None));
+    poll(&mut s, at(&cfg, 40_000), 0, 0, &mut log).expect("accepted");
+    assert_eq!(told(&log), [Event::Start(Start::Silence)]);
+    // Also without a current epoch.
+    let mut bare = State::default();
+    data_sent(&mut bare, at(&cfg, 2000), 0, &mut log).expect("accepted");
+    path(&mut bare, at(&cfg, 2000), 0, true, Some(1), &mut log).expect("accepted");
+    assert!(bare.mem.sent_data && bare.mem.reachable && log.is_empty());
+}
+
 /// Number 10 has two halves, and a link whose sent count has reached `hard` is to be closed.
 #[test]
 fn no_start() {

@@ -1,7 +1,7 @@
 //! Every call held to lists that the published Rust answered.
 //!
-//! The lists stand in `../../shared/vectors`, seen from this crate; `SIKLYAVON_VECTORS` names another
-//! folder. Random calls are answered by the oracle's program, which `oracle/build` makes;
+//! The lists stand in `../../shared/vectors`, seen from this crate, those of the notices beneath it in
+//! `after-1`; `SIKLYAVON_VECTORS` names another folder. Random calls are answered by the oracle's program, which `oracle/build` makes;
 //! `SIKLYAVON_ORACLE` names another. Where nothing is named and the default is not there, the tests
 //! that need it are reported as ignored (build.rs). What is named and not there fails them, and so
 //! does a list that is missing from its folder or has no block.
@@ -66,6 +66,18 @@ fn opens() {
     hold("opens.txt", &list("opens.txt"));
 }
 
+#[test]
+#[cfg_attr(no_lists, ignore = "no ../../shared/vectors; SIKLYAVON_VECTORS names another folder")]
+fn notices() {
+    hold("notices.txt", &list("after-1/notices.txt"));
+}
+
+#[test]
+#[cfg_attr(no_lists, ignore = "no ../../shared/vectors; SIKLYAVON_VECTORS names another folder")]
+fn noticed() {
+    hold("noticed.txt", &list("after-1/noticed.txt"));
+}
+
 /// What the oracle's program writes.
 fn oracle(words: &[&str], input: &str) -> String {
     let program = place("SIKLYAVON_ORACLE", "../target/oracle/build/release/machine");
@@ -99,7 +111,7 @@ fn oracle(words: &[&str], input: &str) -> String {
 fn random() {
     let count = std::env::var("SIKLYAVON_RANDOM").unwrap_or("500".into());
     let seed = std::env::var("SIKLYAVON_SEED").unwrap_or("1".into());
-    for kind in ["single", "runs", "refusals", "opens"] {
+    for kind in ["single", "runs", "refusals", "opens", "notices", "noticed", "noticerefusals"] {
         let asked = oracle(&["random", kind, &seed, &count], "");
         hold(&format!("random {kind}"), &oracle(&["answer"], &asked));
     }

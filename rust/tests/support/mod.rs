@@ -152,8 +152,7 @@ impl<'a> Fields<'a> {
 
     pub fn state(&mut self) -> State {
         self.is("mem");
-        let mut s = State::default();
-        s.mem = Memory {
+        let mem = Memory {
             peer_epoch: self.when(),
             peer_k: {
                 let k = self.opt::<u64>();
@@ -175,6 +174,7 @@ impl<'a> Fields<'a> {
             reachable: self.flag(),
             due: self.flag(),
         };
+        let mut s = State { mem, ..State::default() };
         self.is("cur");
         s.cur.some = self.present();
         if s.cur.some {
@@ -608,6 +608,37 @@ pub fn answer(b: &Block, line: &str, log: &mut Log) -> (String, Option<State>) {
             match sent(&mut state, now, f.num()) {
                 Err(r) => refused(r),
                 Ok(()) => (shown(&state), Some(state)),
+            }
+        }
+        call @ ("worker" | "delegated" | "undelegated" | "datasent" | "path") => {
+            let at = given(f.num(), f.flag());
+            let spread = f.draw(i32::MAX);
+            let before = state;
+            let r = match call {
+                "worker" => {
+                    let (tag, k, counter) = (f.num(), f.flag(), f.num());
+                    worker(&mut state, at, spread, tag, k, counter, log)
+                }
+                "delegated" => delegated(&mut state, at, spread, f.num(), log),
+                "undelegated" => undelegated(&mut state, at, spread, f.num(), log),
+                "datasent" => data_sent(&mut state, at, spread, log),
+                _ => {
+                    let reachable = f.flag();
+                    path(&mut state, at, spread, reachable, f.opt(), log)
+                }
+            };
+            // What the crate's pages say of all five: how many events, and what a reject leaves.
+            let most = match call {
+                "worker" => 6,
+                "datasent" | "path" => 0,
+                _ => 1,
+            };
+            assert!(log.len() <= most, "the events of a notice: {line}");
+            let rejected = log.events().any(|e| matches!(e, Event::Reject(_)));
+            assert!(!rejected || (state == before && log.len() == 1), "a reject: {line}");
+            match r {
+                Err(r) => refused(r),
+                Ok(()) => (events(log) + &shown(&state), Some(state)),
             }
         }
         "wake" => match wake(&state, &b.cfg, &b.profile) {

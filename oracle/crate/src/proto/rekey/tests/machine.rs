@@ -97,6 +97,7 @@ impl<const M: u8, const A: bool, const S: bool, const X: bool, const F: usize> P
     type Route = u64;
     type Ext = u64;
     type LocalKeys = Local;
+    // A profile here has no layer: each takes the inputs of both.
     type Fsp = ();
     type Fmp = ();
     type Msg1 = Infallible;
@@ -161,6 +162,8 @@ pub(crate) trait Numbers:
         Route = u64,
         Ext = u64,
         LocalKeys = Local,
+        Fsp = (),
+        Fmp = (),
         Done = Infallible,
     >
 {
@@ -784,6 +787,42 @@ pub(crate) fn frame<P: Numbers>(
     }
     all.extend(events(&out));
     Done { events: all, rows: Vec::new(), state: show(&m) }
+}
+
+/// A notice, by the published `step`. No notice draws, marks or ends a
+/// responder pending, so nothing is told but what `step` tells.
+fn notice<P: Numbers>(g: Given<'_>, input: Input<'_, P>) -> Done {
+    let mut m = machine::<P>(g.state, g.cfg, g.smaller);
+    let mut shell = Shell::new(g.workers, 0);
+    let out = m.step(TestInstant(g.now), input, &mut shell.env());
+    assert!(shell.jitter.asked == 0, "a notice draws nothing");
+    assert!(MARKS.take().is_empty() && m.record.len() == 0, "a notice tells by `step` alone");
+    Done { events: events(&out), rows: Vec::new(), state: show(&m) }
+}
+
+/// A worker authenticated a frame under the tag.
+pub(crate) fn worker<P: Numbers>(g: Given<'_>, tag: u64, k: bool, counter: u64) -> Done {
+    notice::<P>(g, Input::WorkerFrame { tag: EpochTag::of(tag), k, counter, only: () })
+}
+
+/// A worker took the receive half of the tag.
+pub(crate) fn delegated<P: Numbers>(g: Given<'_>, tag: u64) -> Done {
+    notice::<P>(g, Input::Delegated { tag: EpochTag::of(tag), only: () })
+}
+
+/// The worker that held the tag is gone.
+pub(crate) fn undelegated<P: Numbers>(g: Given<'_>, tag: u64) -> Done {
+    notice::<P>(g, Input::Undelegated { tag: EpochTag::of(tag), only: () })
+}
+
+/// Data was sealed.
+pub(crate) fn datasent<P: Numbers>(g: Given<'_>) -> Done {
+    notice::<P>(g, Input::DataSent { only: () })
+}
+
+/// Whether a next hop exists, and the round trip where it is measured.
+pub(crate) fn path<P: Numbers>(g: Given<'_>, reachable: bool, srtt: Option<u64>) -> Done {
+    notice::<P>(g, Input::PathFacts { reachable, srtt: ms(srtt), only: () })
 }
 
 /// A fresh link, by the published `opening` and `install`.

@@ -79,9 +79,7 @@ impl<const M: u8, const C: u8, const A: bool, const X: bool> Profile for Outer<M
     const SILENCE: bool = true;
     const SETUP_RTT: bool = M == 3;
     const INDEXED: bool = X;
-    /// Not 0 in one of them, so that a worker's frame of length 0 meets both
-    /// DELIVER and REJECT.
-    const FLOOR: usize = if C == 2 { 1 } else { 0 };
+    const FLOOR: usize = 0;
 
     fn initiate(local: &Local, _: &PeerKey, _: Option<u32>) -> Result<(Hs, Wire), HsError> {
         local.0.map(|(hs, msg)| (Hs(hs), wire(msg))).ok_or(HsError)
@@ -179,13 +177,8 @@ fn applied<P: Numbers>(
 
 // ---- the comparison ----
 
-/// The rows, in the order of the table.
-const ROWS: [&str; 19] = [
-    "DataSent",
-    "PathFacts",
-    "Delegated",
-    "Undelegated",
-    "WorkerFrame",
+/// The rows that have writes, in the order of the table.
+const ROWS: [&str; 14] = [
     "Reply, R3 two messages",
     "Reply, R4 restart",
     "Reply, R4 evidence",
@@ -280,18 +273,6 @@ fn rows<P: Numbers<Msg1 = Msg1>>(s: &State, g: &Table<'_>, t: &mut Tally) {
         let published = applied::<P>(s, g, &MADE, None, |_| Change::Drop { seq, reason });
         t.hold("candidate removed", published, state_only(table::removed(s, i)));
     }
-    let published = applied::<P>(s, g, &MADE, None, |_| Change::DataSent);
-    t.hold("DataSent", published, state_only(table::data_sent(s)));
-    for (reachable, srtt) in [(true, None), (false, Some(44))] {
-        let path = Change::Path { reachable, srtt: ms(srtt) };
-        let published = applied::<P>(s, g, &MADE, None, |_| path);
-        t.hold("PathFacts", published, state_only(table::path_facts(s, reachable, srtt)));
-    }
-    for (at, slot) in [(0, Slot::Current), (2, Slot::Previous)] {
-        if s.slot(at).is_some() {
-            workers::<P>(s, g, at, slot, t);
-        }
-    }
     elsewhere::<P>(s, g, t);
 }
 
@@ -338,27 +319,6 @@ fn handshakes<P: Numbers>(s: &State, g: &Table<'_>, made: &Made, t: &mut Tally) 
             });
             t.hold("PeerDone", published, table::peer_done(s, g, made, lease));
         }
-    }
-}
-
-/// The rows of a decrypt worker.
-fn workers<P: Numbers>(s: &State, g: &Table<'_>, at: u8, slot: Slot, t: &mut Tally) {
-    for took in [true, false] {
-        let change = if took { Change::Delegated(slot) } else { Change::Undelegated(slot) };
-        let published = applied::<P>(s, g, &MADE, None, |_| change);
-        let row = if took { "Delegated" } else { "Undelegated" };
-        t.hold(row, published, state_only(table::delegated(s, at, took)));
-    }
-    let tag = s.slot(at).expect("an epoch").tag;
-    for (k, counter) in [(false, 1000), (true, 0)] {
-        let published = applied::<P>(s, g, &MADE, None, |_| Change::Worker { slot, k, counter });
-        let written = table::worker_frame(s, at, counter);
-        let given =
-            Given { state: &written, cfg: g.cfg, smaller: g.smaller, now: g.now, workers: false };
-        let proof = Proof { slot: at, tag, counter, k, len: 0, probe: false, body: 0 };
-        let done = frame::<P>(given, g.spread, proof, &mut [], &[]);
-        let told = done.events.into_iter().filter(work).collect();
-        t.hold("WorkerFrame", published, Row { state: done.state, work: told });
     }
 }
 

@@ -75,6 +75,67 @@ pub(crate) enum Call {
     Sent { now: u64, count: u64 },
     Wake,
     Status { now: u64 },
+    Notice { now: u64, workers: bool, spread: i64, what: Notice },
+}
+
+/// What a notice tells.
+#[derive(Clone, Copy, Debug)]
+pub(crate) enum Notice {
+    Worker { tag: u64, k: bool, counter: u64 },
+    Delegated { tag: u64 },
+    Undelegated { tag: u64 },
+    DataSent,
+    Path { reachable: bool, srtt: Option<u64> },
+}
+
+impl Notice {
+    fn name(self) -> &'static str {
+        match self {
+            Self::Worker { .. } => "worker",
+            Self::Delegated { .. } => "delegated",
+            Self::Undelegated { .. } => "undelegated",
+            Self::DataSent => "datasent",
+            Self::Path { .. } => "path",
+        }
+    }
+
+    /// The fields behind those that every notice has.
+    fn read(word: &str, f: &mut Fields<'_>) -> Self {
+        match word {
+            "worker" => Self::Worker { tag: f.num(), k: f.flag(), counter: f.num() },
+            "delegated" => Self::Delegated { tag: f.num() },
+            "undelegated" => Self::Undelegated { tag: f.num() },
+            "datasent" => Self::DataSent,
+            _ => Self::Path { reachable: f.flag(), srtt: f.opt() },
+        }
+    }
+
+    fn write(self, s: &mut String) {
+        match self {
+            Self::Worker { tag, k, counter } => _ = write!(s, " {tag} {} {counter}", u8::from(k)),
+            Self::Delegated { tag } | Self::Undelegated { tag } => _ = write!(s, " {tag}"),
+            Self::DataSent => {}
+            Self::Path { reachable, srtt } => {
+                _ = write!(s, " {}", u8::from(reachable));
+                put_opt(s, srtt);
+            }
+        }
+    }
+
+    /// Hands the notice to the Rust. No notice reads a profile's floor.
+    fn give(self, profile: &Flags, g: Given<'_>) -> Done {
+        match self {
+            Self::Worker { tag, k, counter } => {
+                by_profile!(profile, false, worker(g, tag, k, counter))
+            }
+            Self::Delegated { tag } => by_profile!(profile, false, delegated(g, tag)),
+            Self::Undelegated { tag } => by_profile!(profile, false, undelegated(g, tag)),
+            Self::DataSent => by_profile!(profile, false, datasent(g)),
+            Self::Path { reachable, srtt } => {
+                by_profile!(profile, false, path(g, reachable, srtt))
+            }
+        }
+    }
 }
 
 fn hex(f: &mut Fields<'_>) -> Vec<u8> {
@@ -151,6 +212,12 @@ impl Call {
             "sent" => Self::Sent { now: f.num(), count: f.num() },
             "wake" => Self::Wake,
             "status" => Self::Status { now: f.num() },
+            "worker" | "delegated" | "undelegated" | "datasent" | "path" => Self::Notice {
+                now: f.num(),
+                workers: f.flag(),
+                spread: f.num(),
+                what: Notice::read(word, f),
+            },
             _ => return None,
         };
         f.end();
@@ -183,6 +250,10 @@ impl Call {
             Self::Sent { now, count } => _ = write!(s, "sent {now} {count}"),
             Self::Wake => s.push_str("wake"),
             Self::Status { now } => _ = write!(s, "status {now}"),
+            Self::Notice { now, workers, spread, what } => {
+                _ = write!(s, "{} {now} {} {spread}", what.name(), u8::from(*workers));
+                what.write(s);
+            }
         }
     }
 }
@@ -261,6 +332,7 @@ pub(crate) fn refusal(
             (*count < cur.sent).then_some((11, 0))
         }),
         Call::Wake | Call::Status { .. } => given().or_else(held),
+        Call::Notice { spread, .. } => given().or_else(held).or_else(|| draws(cfg, *spread, 0)),
     }
 }
 
@@ -354,6 +426,11 @@ fn answer(
             }
             text.push('\n');
             None
+        }
+        &Call::Notice { now, workers, what, .. } => {
+            let done = what.give(profile, given(s?, now, workers));
+            events(&done, text);
+            Some(done.state)
         }
     }
 }
@@ -470,7 +547,8 @@ pub(crate) fn main() {
 
 fn usage() -> ! {
     eprintln!(
-        "machine [--fault NAME] answer | rows | random single|runs|refusals|opens SEED COUNT | --faults"
+        "machine [--fault NAME] answer | rows | \
+         random single|runs|refusals|opens|notices|noticed|noticerefusals SEED COUNT | --faults"
     );
     std::process::exit(2);
 }

@@ -4,7 +4,7 @@
 use super::super::ladder::{MAX_RUNGS, Schedule};
 use super::super::machine::oracle::Proof;
 use super::super::params::Params;
-use super::play::{Call, Flags, leaves_behind, refusal, wake_of};
+use super::play::{Call, Flags, Notice, leaves_behind, refusal, wake_of};
 use super::settings::{self, Cfg, edge, near, pick};
 use super::state::{Cand, Cycle, Drain, Ep, Fin, Init, Lad, Mem, PendI, PendR, State};
 use crate::testutil::SplitMix64;
@@ -662,6 +662,103 @@ impl Gen {
         }
     }
 
+    // ---- notices ----
+
+    /// A state, more often than elsewhere one in which a frame under the
+    /// drained epoch reverts or prompts.
+    fn state_with_drain(&mut self) -> State {
+        let mut s = self.state();
+        match self.g.below(8) {
+            0 | 1 => self.toward_revert(&mut s),
+            2 => {
+                self.toward_revert(&mut s);
+                self.toward_blind(&mut s);
+            }
+            _ => {}
+        }
+        s
+    }
+
+    /// The instants at which a worker's notice begins or ceases to do
+    /// something.
+    fn edges(&self, s: &State) -> Vec<u64> {
+        let mut all = Vec::new();
+        if let Some(c) = &s.cur {
+            all.push(c.started.saturating_add(millis(self.params.span)));
+            all.extend(c.prompted.map(|t| t.saturating_add(1000)));
+        }
+        if let Some(d) = &s.drain {
+            all.push(d.deadline);
+            all.push(back(d.deadline, self.cfg.drain));
+        }
+        if let Cycle::PendI(p) = &s.cycle {
+            let grace = self.grace(&s.mem);
+            all.push(p.deadline);
+            all.extend(p.probed.map(|t| t.saturating_add(grace)));
+        }
+        all
+    }
+
+    /// `now`, or at times an instant at one of the edges or next to it.
+    fn at_edge(&mut self, s: &State, per_mille: u64, now: u64) -> u64 {
+        let edges = self.edges(s);
+        if edges.is_empty() || !self.chance(per_mille) {
+            return now;
+        }
+        let t = pick(&mut self.g, &edges);
+        near(&mut self.g, t)
+    }
+
+    /// The tag of an epoch that is held, the drained one more often than the
+    /// others, or at times one that is held nowhere.
+    fn tag(&mut self, s: &State) -> u64 {
+        let held: Vec<u64> = s.epochs().chain(s.slot(2)).map(|e| e.tag).collect();
+        if !held.is_empty() && self.chance(880) {
+            return pick(&mut self.g, &held);
+        }
+        let tag = match (self.g.below(3), held.first()) {
+            (0, Some(&t)) => near(&mut self.g, t),
+            (1, _) => edge(&mut self.g),
+            _ => self.g.below(9),
+        };
+        let other = (0..).find(|t| !held.contains(t)).expect("some tag is free");
+        if held.contains(&tag) { other } else { tag }
+    }
+
+    /// A frame's counter: often at the epoch's floor or next to it, where it
+    /// has one.
+    fn counter(&mut self, floor: Option<u64>) -> u64 {
+        match (self.g.below(6), floor) {
+            (0..=2, Some(floor)) => near(&mut self.g, floor),
+            (3, _) => pick(&mut self.g, &[0, u64::MAX]),
+            (4, _) => edge(&mut self.g),
+            _ => self.small(),
+        }
+    }
+
+    /// A notice; `kind` is its place in the list of them, from 0.
+    fn notice(&mut self, s: &State, now: u64, kind: u64) -> Call {
+        let tag = self.tag(s);
+        let what = match kind {
+            0 => {
+                let floor = s.epochs().find(|e| e.tag == tag).and_then(|e| e.floor);
+                Notice::Worker { tag, k: self.chance(500), counter: self.counter(floor) }
+            }
+            1 => Notice::Delegated { tag },
+            2 => Notice::Undelegated { tag },
+            3 => Notice::DataSent,
+            _ => {
+                Notice::Path { reachable: self.chance(700), srtt: self.opt(700, Self::round_trip) }
+            }
+        };
+        Call::Notice { now, workers: self.chance(400), spread: self.spread(), what }
+    }
+
+    /// A kind of notice: a worker's as often as two others.
+    fn some_kind(&mut self) -> u64 {
+        pick(&mut self.g, &[0, 0, 1, 2, 3, 4])
+    }
+
     // ---- breaking ----
 
     fn break_profile(&mut self) {
@@ -679,7 +776,9 @@ impl Gen {
         let j = i64::from(self.cfg.jitter);
         let outside = pick(&mut self.g, &[-j - 1, j + 1, -65_536, 65_536]);
         match call {
-            Call::Open { spread, .. } | Call::Frame { spread, .. } => *spread = outside,
+            Call::Open { spread, .. }
+            | Call::Frame { spread, .. }
+            | Call::Notice { spread, .. } => *spread = outside,
             Call::Poll { spread, extra, .. } => {
                 if self.g.chance(500) {
                     *spread = outside;
@@ -826,44 +925,115 @@ impl Gen {
         self.head("run", block, Some(&s), text);
         let mut now = self.now;
         for _ in 0..2 + self.g.below(20) {
-            now = match self.g.below(10) {
-                0..=2 => now,
-                3 => now.saturating_add(1),
-                4 => now.saturating_add(pick(&mut self.g, &self.spans)),
-                5 | 6 => match wake_of(&self.cfg, &self.profile, &s) {
-                    Some(t) => near(&mut self.g, t),
-                    None => now,
-                },
-                7 => now.saturating_add(near(&mut self.g, 1000)),
-                8 => now.saturating_add(self.g.below(5000)),
-                _ => back(now, self.g.below(1500)),
-            };
-            let reply = self.reply(now);
-            let called_for = refusal(&self.cfg, &self.profile, Some(&s), &reply).is_none();
-            let mut call = match self.g.below(20) {
-                _ if called_for && self.chance(400) => reply,
-                0..=8 => self.poll(now),
-                9..=14 => self.frame(&s, now),
-                15 => reply,
-                16 | 17 => self.told(&s, now),
-                18 => Call::Wake,
-                _ => Call::Status { now },
-            };
-            if self.chance(40) {
-                self.break_draws(&mut call);
-            }
-            if self.chance(40) {
-                self.break_frame(&mut call);
-            }
-            call.write(text);
-            text.push('\n');
-            if let Some(left) = leaves_behind(&self.cfg, &self.profile, &s, &call) {
-                s = left;
-            }
+            now = self.next(&s, now);
+            let call = self.next_call(&s, now);
+            self.play(&mut s, &call, text);
         }
     }
 
-    fn refused(&mut self, block: u64, text: &mut String) {
+    /// The instant of a run's next call.
+    fn next(&mut self, s: &State, now: u64) -> u64 {
+        match self.g.below(10) {
+            0..=2 => now,
+            3 => now.saturating_add(1),
+            4 => now.saturating_add(pick(&mut self.g, &self.spans)),
+            5 | 6 => match wake_of(&self.cfg, &self.profile, s) {
+                Some(t) => near(&mut self.g, t),
+                None => now,
+            },
+            7 => now.saturating_add(near(&mut self.g, 1000)),
+            8 => now.saturating_add(self.g.below(5000)),
+            _ => back(now, self.g.below(1500)),
+        }
+    }
+
+    /// A run's next call, no notice.
+    fn next_call(&mut self, s: &State, now: u64) -> Call {
+        let reply = self.reply(now);
+        let called_for = refusal(&self.cfg, &self.profile, Some(s), &reply).is_none();
+        let mut call = match self.g.below(20) {
+            _ if called_for && self.chance(400) => reply,
+            0..=8 => self.poll(now),
+            9..=14 => self.frame(s, now),
+            15 => reply,
+            16 | 17 => self.told(s, now),
+            18 => Call::Wake,
+            _ => Call::Status { now },
+        };
+        if self.chance(40) {
+            self.break_draws(&mut call);
+        }
+        if self.chance(40) {
+            self.break_frame(&mut call);
+        }
+        call
+    }
+
+    /// Writes a run's call and puts what it leaves in place of `s`.
+    fn play(&self, s: &mut State, call: &Call, text: &mut String) {
+        call.write(text);
+        text.push('\n');
+        if let Some(left) = leaves_behind(&self.cfg, &self.profile, s, call) {
+            *s = left;
+        }
+    }
+
+    /// A run of which about every third call is a notice.
+    fn noticed(&mut self, block: u64, text: &mut String) {
+        let mut s = self.state_with_drain();
+        self.head("run", block, Some(&s), text);
+        let mut now = self.now;
+        for _ in 0..3 + self.g.below(20) {
+            now = self.next(&s, now);
+            let call = if self.chance(350) {
+                let kind = self.some_kind();
+                let at = self.at_edge(&s, 100, now);
+                let mut call = self.notice(&s, at, kind);
+                if self.chance(40) {
+                    self.break_draws(&mut call);
+                }
+                call
+            } else {
+                self.next_call(&s, now)
+            };
+            self.play(&mut s, &call, text);
+        }
+    }
+
+    /// Every notice, and some again.
+    fn notices(&mut self, block: u64, text: &mut String) {
+        let s = self.state_with_drain();
+        self.head("vector", block, Some(&s), text);
+        for i in 0..8 + self.g.below(5) {
+            let kind = if i < 5 { i } else { self.some_kind() };
+            let now = self.when();
+            let now = self.at_edge(&s, 300, now);
+            let mut call = self.notice(&s, now, kind);
+            if self.chance(40) {
+                self.break_draws(&mut call);
+            }
+            call.write(text);
+            text.push('\n');
+        }
+    }
+
+    /// Every notice on a block as `refused` breaks it.
+    fn notices_refused(&mut self, block: u64, text: &mut String) {
+        let s = self.broken();
+        self.head("vector", block, Some(&s), text);
+        for kind in 0..5 {
+            let now = self.when();
+            let mut call = self.notice(&s, now, kind);
+            if self.chance(300) {
+                self.break_draws(&mut call);
+            }
+            call.write(text);
+            text.push('\n');
+        }
+    }
+
+    /// A state, with settings, profile or state broken.
+    fn broken(&mut self) -> State {
         let mut s = self.state();
         for _ in 0..1 + self.g.below(3) {
             match self.g.below(10) {
@@ -873,6 +1043,11 @@ impl Gen {
                 _ => {}
             }
         }
+        s
+    }
+
+    fn refused(&mut self, block: u64, text: &mut String) {
+        let s = self.broken();
         self.head("vector", block, Some(&s), text);
         for _ in 0..3 + self.g.below(3) {
             let now = self.when();
@@ -928,6 +1103,9 @@ pub(super) fn block(kind: &str, seed: u64, block: u64, text: &mut String) -> boo
         "runs" => g.run(block, text),
         "refusals" => g.refused(block, text),
         "opens" => g.opens(block, text),
+        "notices" => g.notices(block, text),
+        "noticed" => g.noticed(block, text),
+        "noticerefusals" => g.notices_refused(block, text),
         _ => return false,
     }
     true

@@ -1,7 +1,8 @@
 //! The table of include/siklyavon_link.h, "What happens outside, and what to
-//! write for it", restated on the numbers of a state: a function for each row,
-//! named after the input in its brackets, and one for each group R, F and C.
-//! What the table says to do beside the writes is told as events.
+//! write for it", restated on the numbers of a state: a function for each row
+//! that has writes, named after the input in its brackets, and one for each
+//! group R, F and C. What the table says to do beside the writes is told as
+//! events. A row that names a call has no function here.
 use super::super::machine::oracle::Event;
 use super::settings::Cfg;
 use super::state::{Cand, Cycle, Drain, Ep, Fin, Lad, PendI, PendR, State};
@@ -171,45 +172,6 @@ fn give_up(lease: Option<u32>, transport: u64, work: &mut Vec<Event>) {
 }
 
 // ---- the rows ----
-
-/// Data was sealed for the peer [DataSent].
-pub(crate) fn data_sent(s: &State) -> State {
-    let mut s = s.clone();
-    s.mem.sent_data = true;
-    s
-}
-
-/// The path changed, or the round trip was measured [PathFacts].
-pub(crate) fn path_facts(s: &State, reachable: bool, srtt: Option<u64>) -> State {
-    let mut s = s.clone();
-    s.mem.reachable = reachable;
-    s.mem.srtt = srtt;
-    s
-}
-
-/// The epoch in slot 0 or 2.
-fn slot(s: &mut State, slot: u8) -> &mut Ep {
-    match slot {
-        0 => s.cur.as_mut().expect("a current epoch"),
-        _ => &mut s.drain.as_mut().expect("a drained epoch").ep,
-    }
-}
-
-/// A worker took a receive half [Delegated]; that worker is gone
-/// [Undelegated].
-pub(crate) fn delegated(s: &State, at: u8, took: bool) -> State {
-    let mut s = s.clone();
-    slot(&mut s, at).recv = took.into();
-    s
-}
-
-/// A worker authenticated a frame [WorkerFrame]: the write before the call.
-pub(crate) fn worker_frame(s: &State, at: u8, counter: u64) -> State {
-    let mut s = s.clone();
-    let ep = slot(&mut s, at);
-    ep.floor = Some(ep.floor.unwrap_or(0).max(counter));
-    s
-}
 
 /// The own attempt's reply authenticated while cycle.kind is INIT [Reply]:
 /// R1 to R5. `msg` is the last message of three.
