@@ -190,9 +190,11 @@ static void carry_out(const uint64_t *log, size_t len) {
     for (size_t i = 0; i < len; i++) {
         const uint64_t *e = &log[i * SIKLYAVON_WORDS_PER_EVENT];
         switch (e[0]) {
-        case SIKLYAVON_EVENT_SEND: say("  send: message %" PRIu64 ", %s", e[1], message[e[2]]); break;
+        case SIKLYAVON_EVENT_SEND:
+            say("  send: message %" PRIu64 ", %s, rungs %" PRIu64, e[1], message[e[2]], e[3]);
+            break;
         case SIKLYAVON_EVENT_PROMPT:
-            say("  prompt: epoch %" PRIu64, e[1]);
+            say("  prompt: epoch %" PRIu64 ", rungs %" PRIu64, e[1], e[2]);
             if (e[1] == t.link.cur.ep.tag) {
                 t.sealed++;
                 told = true;

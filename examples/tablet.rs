@@ -190,11 +190,11 @@ impl Tablet {
         let mut told = false;
         for event in self.log.events().collect::<Vec<_>>() {
             match event {
-                Event::Send { msg, kind } => {
-                    self.say(format!("  send: message {msg}, {}", name(kind)))
+                Event::Send { msg, kind, rungs } => {
+                    self.say(format!("  send: message {msg}, {}, rungs {rungs}", name(kind)))
                 }
-                Event::Prompt { tag } => {
-                    self.say(format!("  prompt: epoch {tag}"));
+                Event::Prompt { tag, rungs } => {
+                    self.say(format!("  prompt: epoch {tag}, rungs {rungs}"));
                     if tag == self.link.cur.ep.tag {
                         self.sealed += 1;
                         told = true;

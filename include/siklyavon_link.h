@@ -32,6 +32,13 @@
  * eight words. Words behind these are no part of the answer: what was there before, or a prompt that was
  * withdrawn.
  *
+ * Rungs. SEND and PROMPT end with the number of rungs that were taken from the ladder that they come from,
+ * keepalives too: 1 where the link was polled for each rung; N where N were due at once, so that the caller
+ * slept past N - 1 of them, and past the last one too unless the poll came at its instant. One message goes
+ * out for all of them. The SEND and both PROMPTs of one probe have the same number. A PROMPT that comes from
+ * no ladder (at an open, a cutover or a revert, or as an answer to what was heard) has 0; a SEND always
+ * comes from one. A resend that is held back tells nothing, and its number is lost.
+ *
  * Stack. What one call takes, in bytes, its arguments and its answer included: the most of many states,
  * measured with a painted stack on an AMD EPYC, the caller built by gcc 12.2 -O2 (tools/stack measures
  * again).
@@ -51,7 +58,7 @@ extern "C" {
 
 /* The version of what this file declares. It rises when a record, a number or a call changes. The calls
  * siklyavon_sample_... hold a caller's records to the library: tools/header compares every field. */
-#define SIKLYAVON_LAYOUT 2
+#define SIKLYAVON_LAYOUT 3
 
 /* ---- Sizes */
 
@@ -69,8 +76,8 @@ extern "C" {
 
 /* Events: the first word of a place in a log, then these fields. has_tag and has_floor are 1 where the
  * number after them is there, else both words are 0. */
-#define SIKLYAVON_EVENT_SEND 0               /* msg message: send the handshake message msg on the established route */
-#define SIKLYAVON_EVENT_PROMPT 1             /* tag: seal a frame under this epoch and send it */
+#define SIKLYAVON_EVENT_SEND 0               /* msg message rungs: send the handshake message msg on the established route */
+#define SIKLYAVON_EVENT_PROMPT 1             /* tag rungs: seal a frame under this epoch and send it */
 #define SIKLYAVON_EVENT_DELIVER 2            /* slot tag start end: hand up bytes start up to end of the target */
 #define SIKLYAVON_EVENT_BIND 3               /* transport index has_tag tag purpose: route the index to this link */
 #define SIKLYAVON_EVENT_UNBIND 4             /* transport index: remove that binding */

@@ -109,10 +109,14 @@ numbered! {
 /// One event. Messages, sessions, leases and routes are numbers of the caller.
 #[derive(Clone, Copy, Debug, PartialEq, Eq)]
 pub enum Event {
-    /// Send a handshake message on the established route.
-    Send { msg: u64, kind: Message },
-    /// Seal a frame under an epoch and send it.
-    Prompt { tag: u64 },
+    /// Send a handshake message on the established route. `rungs` is how many rungs of its resend ladder
+    /// this poll took for it, keepalives too: 1 where each was polled for, N where the caller slept past
+    /// N − 1 of them, and past the last one too unless the poll came at its instant.
+    Send { msg: u64, kind: Message, rungs: u64 },
+    /// Seal a frame under an epoch and send it. `rungs` as for [`Event::Send`] where it comes from a
+    /// ladder (prompt repeats after a cutover, probes and keepalives); 0 for every other prompt: at an
+    /// open, a cutover or a revert, or as an answer to what was heard.
+    Prompt { tag: u64, rungs: u64 },
     /// The plaintext from `start` up to `end` of the target is to be delivered.
     Deliver { slot: Slot, tag: u64, start: u64, end: u64 },
     /// Frames for an index on a transport go to this link.
@@ -159,8 +163,8 @@ impl Event {
     /// The event that eight words tell of; none where they are no event's words.
     pub fn of(w: &[u64; 8]) -> Option<Self> {
         Some(match w[0] {
-            0 => Self::Send { msg: w[1], kind: Message::of(w[2])? },
-            1 => Self::Prompt { tag: w[1] },
+            0 => Self::Send { msg: w[1], kind: Message::of(w[2])?, rungs: w[3] },
+            1 => Self::Prompt { tag: w[1], rungs: w[2] },
             2 => Self::Deliver {
                 slot: Slot::of(u8::try_from(w[1]).ok()?)?,
                 tag: w[2],

@@ -370,7 +370,7 @@ fn events() {
     t.has("EVENT_BIND", &["7", "9", "1", "1", "PURPOSE_CURRENT"]);
     t.has("EVENT_DELEGATE", &["1", "7", "9"]);
     t.has("EVENT_INSTALLED", &["1", "ROLE_RESPONDER", "EVIDENCE_FIRST"]);
-    t.has("EVENT_PROMPT", &["1"]);
+    t.has("EVENT_PROMPT", &["1", "0"]);
 
     t.frame(&fresh, &PROFILE, 1, "SLOT_CURRENT");
     t.has("EVENT_MARK", &["1", "5"]);
@@ -450,7 +450,7 @@ fn events() {
     s.cycle.pendi.wait = kind("WAIT_DELAY");
     s.cycle.pendi.deadline = 2000;
     t.poll(&s, &three, 2000, false);
-    t.has("EVENT_SEND", &["6", "MESSAGE_MSG3"]);
+    t.has("EVENT_SEND", &["6", "MESSAGE_MSG3", "1"]);
     t.has("EVENT_INSTALLED", &["2", "ROLE_INITIATOR", "EVIDENCE_DELAY"]);
 
     // An own attempt: its resends, and its deadline with an epoch and without.
@@ -459,9 +459,9 @@ fn events() {
     (s.cycle.init.out, s.cycle.init.deadline) = (6, 2001);
     s.cycle.init.ladder = ladder(500);
     t.poll(&s, &PROFILE, 2000, false);
-    t.has("EVENT_SEND", &["6", "MESSAGE_MSG1"]);
+    t.has("EVENT_SEND", &["6", "MESSAGE_MSG1", "1"]);
     t.poll(&s, &three, 2000, false);
-    t.has("EVENT_SEND", &["6", "MESSAGE_SETUP"]);
+    t.has("EVENT_SEND", &["6", "MESSAGE_SETUP", "1"]);
     t.poll(&s, &PROFILE, 2001, false);
     t.has("EVENT_ABANDONED", &["ABANDON_UNANSWERED"]);
     s.cur.some = false;
@@ -542,7 +542,7 @@ fn version() {
         .fold(0xcbf2_9ce4_8422_2325_u64, |n, b| (n ^ u64::from(b)).wrapping_mul(0x100_0000_01b3));
     assert_eq!(
         (h.of("LAYOUT"), format!("{number:016x}").as_str()),
-        (2, "41acc7f5d1e86693"),
+        (3, "41acc7f5d1e86693"),
         "the declarations changed: raise SIKLYAVON_LAYOUT, and write both numbers here"
     );
 }

@@ -26,6 +26,14 @@ fn rung(origin: u64, offset: u64) -> Ladder {
     l
 }
 
+/// The ladder of document 01's P7: a keepalive after 3 s, a send after 5 s, a keepalive after 8 s.
+fn p7(origin: u64) -> Ladder {
+    let mut l = Ladder { origin, ..Ladder::default() };
+    l.sched.at[..3].copy_from_slice(&[3000, 5000, 8000]);
+    (l.sched.keepalive, l.sched.len) = (0b101, 3);
+    l
+}
+
 #[test]
 fn defaults() {
     let (link, session) = (Config::fmp(), Config::fsp());
@@ -276,8 +284,8 @@ fn worker_reverts() {
         Event::Release { index: 5 },
         Event::Abandoned(Abandon::Reverted),
         Event::Reverted { tag: 1 },
-        Event::Prompt { tag: 1 },
-        Event::Prompt { tag: 2 },
+        Event::Prompt { tag: 1, rungs: 0 },
+        Event::Prompt { tag: 2, rungs: 0 },
     ];
     assert_eq!(told(&log), events);
     assert_eq!((s.cur.ep.tag, s.cur.ep.floor.get(), s.drain.some), (2, Some(9), false));
@@ -431,4 +439,53 @@ fn start_again() {
         reply(&mut s, at(&cfg, now), None).expect("a start is called for");
         assert_eq!(s, first);
     }
+}
+
+/// A send or prompt from a ladder has the number of rungs that were taken for it, any other 0.
+#[test]
+fn rungs_taken() {
+    let (cfg, mut log) = (Config::fmp(), Log::new());
+    let mut s = opened(&cfg, &mut log);
+    let o = Opening { role: Role::Responder, transport: 7, lease: None, workers: false };
+    open(&cfg, &PROFILE, o, 0, 1000, &mut log).expect("a link opens");
+    assert_eq!(told(&log).last(), Some(&Event::Prompt { tag: 1, rungs: 0 }));
+
+    // An own attempt, resent after 1, 3 and 7 s: polled for each, asleep past three, past two of them.
+    poll(&mut s, at(&cfg, 121_000), 0, 0, &mut log).expect("accepted");
+    let started = Attempted { hs: 1, msg: 2, transport: 3, lease: None };
+    reply(&mut s, at(&cfg, 121_000), Some(started)).expect("a start is called for");
+    let resent = |from: &State, now: u64, log: &mut Log| {
+        let mut s = *from;
+        poll(&mut s, at(&cfg, now), 0, 0, log).expect("accepted");
+        (s, told(log))
+    };
+    let sent = |rungs| vec![Event::Send { msg: 2, kind: Message::Msg1, rungs }];
+    assert_eq!(resent(&s, 121_999, &mut log).1, []);
+    let (first, events) = resent(&s, 122_000, &mut log);
+    assert_eq!(events, sent(1));
+    let (second, events) = resent(&first, 124_000, &mut log);
+    assert_eq!(events, sent(1));
+    assert_eq!(resent(&second, 130_000, &mut log).1, sent(1));
+    assert_eq!(resent(&first, 130_000, &mut log).1, sent(2));
+    let (late, events) = resent(&s, 130_000, &mut log);
+    assert_eq!((events, late.cycle.init.ladder.next), (sent(3), 3));
+
+    // A completed own attempt: the send and both prompts of a probe have one number; a keepalive prompts.
+    s.cycle.kind = CycleKind::PendI.number();
+    let p = &mut s.cycle.pendi;
+    (p.ep.tag, p.wait, p.deadline) = (2, Wait::Evidence.number(), 150_000);
+    p.fin = Final { some: true, msg: 6, ..Final::default() };
+    p.probes = MayLadder { some: true, ladder: p7(121_000) };
+    assert_eq!(resent(&s, 124_000, &mut log).1, [Event::Prompt { tag: 1, rungs: 1 }]);
+    let probe = [
+        Event::Send { msg: 6, kind: Message::Msg3, rungs: 3 },
+        Event::Prompt { tag: 2, rungs: 3 },
+        Event::Prompt { tag: 1, rungs: 3 },
+    ];
+    assert_eq!(resent(&s, 129_000, &mut log).1, probe);
+
+    // The cutover at the deadline: its prompt has 0, and the two repeats that are slept past have 2.
+    let (cut, events) = resent(&s, 150_000, &mut log);
+    assert!(events.contains(&Event::Prompt { tag: 2, rungs: 0 }));
+    assert_eq!(resent(&cut, 155_000, &mut log).1, [Event::Prompt { tag: 2, rungs: 2 }]);
 }

@@ -1,8 +1,8 @@
 //! Every call held to lists that the published Rust answered.
 //!
-//! The lists stand in `../../shared/vectors`, seen from this crate, those of the notices beneath it in
-//! `after-1`; `SIKLYAVON_VECTORS` names another folder. Random calls are answered by the oracle's program, which `oracle/build` makes;
-//! `SIKLYAVON_ORACLE` names another. Where nothing is named and the default is not there, the tests
+//! The lists stand in `../../shared/vectors/after-2`, seen from this crate: they have notices and the
+//! number of rungs on each send and prompt; `SIKLYAVON_VECTORS` names another folder. Random calls are
+//! answered by the oracle's program, which `oracle/build` makes; `SIKLYAVON_ORACLE` names another. Where nothing is named and the default is not there, the tests
 //! that need it are reported as ignored (build.rs). What is named and not there fails them, and so
 //! does a list that is missing from its folder or has no block.
 mod support;
@@ -18,7 +18,7 @@ fn place(variable: &str, default: &str) -> PathBuf {
 }
 
 fn list(name: &str) -> String {
-    let path = place("SIKLYAVON_VECTORS", "../../shared/vectors").join(name);
+    let path = place("SIKLYAVON_VECTORS", "../../shared/vectors/after-2").join(name);
     std::fs::read_to_string(&path).unwrap_or_else(|e| {
         panic!("{}: {e}. SIKLYAVON_VECTORS names the folder of the lists", path.display())
     })
@@ -43,39 +43,39 @@ fn hold(name: &str, list: &str) {
 }
 
 #[test]
-#[cfg_attr(no_lists, ignore = "no ../../shared/vectors; SIKLYAVON_VECTORS names another folder")]
+#[cfg_attr(no_lists, ignore = "no ../../shared/vectors/after-2; SIKLYAVON_VECTORS names another folder")]
 fn single() {
     hold("single.txt", &list("single.txt"));
 }
 
 #[test]
-#[cfg_attr(no_lists, ignore = "no ../../shared/vectors; SIKLYAVON_VECTORS names another folder")]
+#[cfg_attr(no_lists, ignore = "no ../../shared/vectors/after-2; SIKLYAVON_VECTORS names another folder")]
 fn runs() {
     hold("runs.txt", &list("runs.txt"));
 }
 
 #[test]
-#[cfg_attr(no_lists, ignore = "no ../../shared/vectors; SIKLYAVON_VECTORS names another folder")]
+#[cfg_attr(no_lists, ignore = "no ../../shared/vectors/after-2; SIKLYAVON_VECTORS names another folder")]
 fn refusals() {
     hold("refusals.txt", &list("refusals.txt"));
 }
 
 #[test]
-#[cfg_attr(no_lists, ignore = "no ../../shared/vectors; SIKLYAVON_VECTORS names another folder")]
+#[cfg_attr(no_lists, ignore = "no ../../shared/vectors/after-2; SIKLYAVON_VECTORS names another folder")]
 fn opens() {
     hold("opens.txt", &list("opens.txt"));
 }
 
 #[test]
-#[cfg_attr(no_lists, ignore = "no ../../shared/vectors; SIKLYAVON_VECTORS names another folder")]
+#[cfg_attr(no_lists, ignore = "no ../../shared/vectors/after-2; SIKLYAVON_VECTORS names another folder")]
 fn notices() {
-    hold("notices.txt", &list("after-1/notices.txt"));
+    hold("notices.txt", &list("notices.txt"));
 }
 
 #[test]
-#[cfg_attr(no_lists, ignore = "no ../../shared/vectors; SIKLYAVON_VECTORS names another folder")]
+#[cfg_attr(no_lists, ignore = "no ../../shared/vectors/after-2; SIKLYAVON_VECTORS names another folder")]
 fn noticed() {
-    hold("noticed.txt", &list("after-1/noticed.txt"));
+    hold("noticed.txt", &list("noticed.txt"));
 }
 
 /// What the oracle's program writes.

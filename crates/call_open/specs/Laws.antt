@@ -17,7 +17,7 @@ use Rattle.candidates.specs.Held.{heldOf, between}
 use Rattle.candidates.specs.Repeats.{among, repeated}
 use Rattle.state.specs.declared.Profile.{Profile}
 use Rattle.state.specs.Parts.{pendingOf, epochsOf, epochLadders, cycleLadders, allLadders, laddersOf}
-use Rattle.events.specs.Events.{Event, Installed, Prompt, Delegate, Bind}
+use Rattle.events.specs.Events.{Event, Installed, Prompt, Delegate, Bind, noRungs}
 use Rattle.retire.specs.Retire.{only, offerable, floorTold, delegateOut}
 use Rattle.refusal.specs.Refusal.{anyOf, isPending, epochsBadOf, numbersBad, laddersBad, first, stateTests, stateBack, beforeOpen}
 use Rattle.answer.specs.Laws.{by-either}
@@ -41,7 +41,7 @@ open-accepted cfg p responder transport lease workers spread time =
     (fresh-accepted responder transport lease spread time)
 
 -- document 01's case: a responder with no lease, workers off
-pub printed : (transport : ℕ) → installOut (firstEpoch true transport noIndex 1000) false ≡ Installed 1 true evidenceFirst ∷ Prompt 1 ∷ []
+pub printed : (transport : ℕ) → installOut (firstEpoch true transport noIndex 1000) false ≡ Installed 1 true evidenceFirst ∷ Prompt 1 noRungs ∷ []
 unfolding installOut delegateOut firstEpoch
 printed transport = refl
 
@@ -63,7 +63,7 @@ few e workers =
       arith,
       only-one (e .ids .lease .some) (Bind (e .ids .transport) (e .ids .lease .index) (at (e .tag)) purposeCurrent),
       only-one (pick workers (offerable e) false) (Delegate (e .tag) (e .ids .transport) (e .ids .lease .index) (e .session) (floorTold (e .floor))),
-      only-one (e .responder) (Prompt (e .tag)),
+      only-one (e .responder) (Prompt (e .tag) noRungs),
     ))
 
 pub open-few : (cfg : Config) (p : Profile) (responder : Bool) (transport : ℕ) (lease : Index) (workers : Bool) (spread : ℤ) (time : ℕ) → length (openOf cfg p responder transport lease workers spread time .out) ≤ 4

@@ -13,7 +13,7 @@ use Rattle.epoch.specs.declared.MayEpoch.{MayEpoch}
 use Rattle.state.specs.declared.Memory.{Memory}
 use Rattle.state.specs.declared.State.{State}
 use Rattle.state.specs.declared.Profile.{Profile}
-use Rattle.events.specs.Events.{Event, Bind, Installed, Prompt}
+use Rattle.events.specs.Events.{Event, Bind, Installed, Prompt, noRungs}
 use Rattle.retire.specs.Retire.{only, delegateOut}
 use Rattle.refusal.specs.Refusal.{beforeOpen}
 use Rattle.answer.specs.Outcome.{Outcome, done, outcomeBy}
@@ -88,7 +88,7 @@ unfoldable pub installOut : Epoch → Bool → List Event
 installOut e workers =
     only (e .ids .lease .some) (Bind (e .ids .transport) (e .ids .lease .index) (at (e .tag)) purposeCurrent)
     ++ (delegateOut e workers
-    ++ (Installed (e .tag) (e .responder) evidenceFirst ∷ only (e .responder) (Prompt (e .tag))))
+    ++ (Installed (e .tag) (e .responder) evidenceFirst ∷ only (e .responder) (Prompt (e .tag) noRungs)))
 
 -- the link and its events
 unfoldable pub opened : Bool → ℕ → Index → Bool → ℤ → ℕ → Outcome

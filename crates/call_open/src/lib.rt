@@ -3,7 +3,7 @@ ghost use mathlib.Core.Path.{_≡_};
 ghost use Rattle.events.specs.Log.{Appends};
 ghost use Rattle.retire.specs.Retire.{only};
 ghost use Rattle.numbers.specs.Numbers.{purposeCurrent};
-ghost use Rattle.events.specs.Events.{Bind, Prompt};
+ghost use Rattle.events.specs.Events.{Bind, Prompt, noRungs};
 ghost use Rattle.time.specs.Time.{at as atOf};
 ghost use Rattle.call_open.specs.Blank.{noLadder, noFinal, noRepeats, noEpoch, noCurrent, noDrain, noAttempt, noPendI, noPendR, idle as idleOf, noCandidates};
 ghost use Rattle.call_open.specs.Open.{newMemory, firstEpoch, alone as aloneOf, freshState, blankState, installOut, openOf};
@@ -328,10 +328,10 @@ fn bind(ep: Epoch, log: &mut [u64; 768], len: usize) -> usize
 
 // A responder speaks first under the new epoch, so that the peer hears that it holds it.
 fn prompt(ep: Epoch, log: &mut [u64; 768], len: usize) -> usize
-    ensures { λ r. ⌜ Appends (only (ep .responder) (Prompt (ep .tag))) len (now (log .entry)) r (now (log .exit)) ⌝ }
+    ensures { λ r. ⌜ Appends (only (ep .responder) (Prompt (ep .tag) noRungs)) len (now (log .entry)) r (now (log .exit)) ⌝ }
 {
     if ep.responder {
-        events::prompt(log, len, ep.tag)
+        events::prompt(log, len, ep.tag, events::NO_RUNGS)
     } else {
         len
     }

@@ -21,7 +21,7 @@ use Rattle.candidates.specs.Held.{clearedOf}
 use Rattle.state.specs.declared.Memory.{Memory}
 use Rattle.state.specs.declared.State.{State}
 use Rattle.state.specs.declared.Given.{Given}
-use Rattle.events.specs.Events.{Event, Prompt, Installed, PeerRestarted, Rekeyed}
+use Rattle.events.specs.Events.{Event, Prompt, Installed, PeerRestarted, Rekeyed, noRungs}
 use Rattle.retire.specs.Retire.{only, retireOut, delegateOut}
 use Rattle.time.specs.Pick.{and}
 use Rattle.cutover.specs.declared.Pend.{Pend}
@@ -140,7 +140,7 @@ announced e restart peer evidence workers =
     delegateOut e workers
     ++ (Installed (e .tag) (e .responder) evidence
     ∷ (only (and restart (peer .some)) (PeerRestarted (peer .at))
-    ++ (Prompt (e .tag) ∷ Rekeyed (e .responder) ∷ [])))
+    ++ (Prompt (e .tag) noRungs ∷ Rekeyed (e .responder) ∷ [])))
 
 -- ---- the whole
 pub record CutStep : Type 0 where

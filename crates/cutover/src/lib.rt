@@ -303,7 +303,7 @@ fn announce(
     let a = retire::delegate(ep, workers, log, len);
     let b = events::installed(log, a, ep.tag, ep.responder, evidence);
     let c = restarted(restart, peer, log, b);
-    let d = events::prompt(log, c, ep.tag);
+    let d = events::prompt(log, c, ep.tag, events::NO_RUNGS);
     events::rekeyed(log, d, ep.responder)
 }
 

@@ -9,9 +9,10 @@ use Rattle.numbers.specs.Numbers.{bit, roleNo, eventSend, eventPrompt, eventDel
 -- counter) for `mark`, START (kind), and ENDED (tag)". In the order of `Output` (mod.rs), without
 -- its `ReplaceRequested`, which no ported call gives. An enum's case is its number (crate numbers).
 pub data Event : Type 0 where
-  -- the route is left out: the ported calls give `Established` without fallback only
-  Send : (msg kind : ℕ) → Event
-  Prompt : (tag : ℕ) → Event
+  -- the route is left out: the ported calls give `Established` without fallback only. "Each send and
+  -- prompt that comes from a ladder carries that number" of rungs taken, "any other 0" (request 2)
+  Send : (msg kind rungs : ℕ) → Event
+  Prompt : (tag rungs : ℕ) → Event
   Deliver : (slot tag start end : ℕ) → Event
   Bind : (transport index : ℕ) (tag : When) (purpose : ℕ) → Event
   Unbind : (transport index : ℕ) → Event
@@ -33,11 +34,15 @@ pub data Event : Type 0 where
   Start : (kind : ℕ) → Event
   Ended : (tag : ℕ) → Event
 
+-- the number of rungs on a prompt that comes from no ladder
+abbrev pub noRungs : ℕ
+noRungs = 0
+
 -- An event's eight words: its number; its fields in order, a
 -- `When` as a flag and its number; then 0.
 abbrev pub wordsOf : Event → List ℕ
-wordsOf (Send msg kind) = eventSend ∷ msg ∷ kind ∷ 0 ∷ 0 ∷ 0 ∷ 0 ∷ 0 ∷ []
-wordsOf (Prompt tag) = eventPrompt ∷ tag ∷ 0 ∷ 0 ∷ 0 ∷ 0 ∷ 0 ∷ 0 ∷ []
+wordsOf (Send msg kind rungs) = eventSend ∷ msg ∷ kind ∷ rungs ∷ 0 ∷ 0 ∷ 0 ∷ 0 ∷ []
+wordsOf (Prompt tag rungs) = eventPrompt ∷ tag ∷ rungs ∷ 0 ∷ 0 ∷ 0 ∷ 0 ∷ 0 ∷ []
 wordsOf (Deliver slot tag start end) = eventDeliver ∷ slot ∷ tag ∷ start ∷ end ∷ 0 ∷ 0 ∷ 0 ∷ []
 wordsOf (Bind transport index tag purpose) = eventBind ∷ transport ∷ index ∷ bit (tag .some) ∷ tag .at ∷ purpose ∷ 0 ∷ 0 ∷ []
 wordsOf (Unbind transport index) = eventUnbind ∷ transport ∷ index ∷ 0 ∷ 0 ∷ 0 ∷ 0 ∷ 0 ∷ []

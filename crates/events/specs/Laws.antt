@@ -21,8 +21,8 @@ use Rattle.events.specs.Queries.{anyFrom, anyOf, offeredIn, offers, word
 use Rattle.events.specs.Withdraw.{sealable, sifted, sifting, stays, withdrawn, wordsStay}
 
 pub eight-words : (e : Event) → length (wordsOf e) ≡ 8
-eight-words (Send msg kind) = refl
-eight-words (Prompt tag) = refl
+eight-words (Send msg kind rungs) = refl
+eight-words (Prompt tag rungs) = refl
 eight-words (Deliver slot tag start end) = refl
 eight-words (Bind transport index tag purpose) = refl
 eight-words (Unbind transport index) = refl
@@ -48,8 +48,8 @@ whenOf some n = record { some = eqb some 1; at = n }
 abbrev eventOf : List ℕ → Event
 eventOf [] = Ended 0
 eventOf (n ∷ w) =
-    pick (eqb n eventSend) (Send (getD w 0 0) (getD w 1 0))
-    (pick (eqb n eventPrompt) (Prompt (getD w 0 0))
+    pick (eqb n eventSend) (Send (getD w 0 0) (getD w 1 0) (getD w 2 0))
+    (pick (eqb n eventPrompt) (Prompt (getD w 0 0) (getD w 1 0))
     (pick (eqb n eventDeliver) (Deliver (getD w 0 0) (getD w 1 0) (getD w 2 0) (getD w 3 0))
     (pick (eqb n eventBind) (Bind (getD w 0 0) (getD w 1 0) (whenOf (getD w 2 0) (getD w 3 0)) (getD w 4 0))
     (pick (eqb n eventUnbind) (Unbind (getD w 0 0) (getD w 1 0))
@@ -73,8 +73,8 @@ flagged false = refl
 flagged true = refl
 
 told : (e : Event) → eventOf (wordsOf e) ≡ e
-told (Send msg kind) = refl
-told (Prompt tag) = refl
+told (Send msg kind rungs) = refl
+told (Prompt tag rungs) = refl
 told (Deliver slot tag start end) = refl
 told (Bind transport index tag purpose) = ap (λ (b : Bool). Bind transport index (record { some = b; at = tag .at }) purpose) (flagged (tag .some))
 told (Unbind transport index) = refl
@@ -344,9 +344,9 @@ pub any-all : (ws : List ℕ) (len tag n : ℕ) → n ≡ takenOf len → anyFro
 unfolding anyFrom offeredIn held at
 any-all ws len tag n e = rw e
 
-pub stays-prompt : (cur pend : When) (tag : ℕ) → stays cur pend (Prompt tag) ≡ sealable cur pend tag
+pub stays-prompt : (cur pend : When) (tag rungs : ℕ) → stays cur pend (Prompt tag rungs) ≡ sealable cur pend tag
 unfolding wordsStay
-stays-prompt cur pend tag = refl
+stays-prompt cur pend tag rungs = refl
 
 module _ (p : List ℕ → Bool) (ws w : List ℕ) (next i : ℕ) (e : w ≡ placeOf ws i) where
   pub sifted-moves : (n : ℕ) (ws′ : List ℕ) → p w ≡ true → at n ws′ ≡ stored (at next ws) w → at n ws′ ≡ sifted p (at next ws) i

@@ -84,18 +84,22 @@ fn add(
     )
 }
 
-// A handshake message, on the established route without fallback.
-pub fn send(log: &mut [u64; 768], len: usize, msg: u64, kind: u64) -> usize
-    ensures { λ r. ⌜ Appends (Send msg kind ∷ []) len (now (log .entry)) r (now (log .exit)) ⌝ }
+// The number of rungs on a prompt that comes from no ladder.
+pub const NO_RUNGS: u64 = 0;
+
+// A handshake message, on the established route without fallback, with the number of rungs that were
+// taken for it.
+pub fn send(log: &mut [u64; 768], len: usize, msg: u64, kind: u64, rungs: u64) -> usize
+    ensures { λ r. ⌜ Appends (Send msg kind rungs ∷ []) len (now (log .entry)) r (now (log .exit)) ⌝ }
 {
-    add(log, len, event::SEND, msg, kind, 0, 0, 0, 0)
+    add(log, len, event::SEND, msg, kind, rungs, 0, 0, 0)
 }
 
-// A frame to seal under an epoch and send.
-pub fn prompt(log: &mut [u64; 768], len: usize, tag: u64) -> usize
-    ensures { λ r. ⌜ Appends (Prompt tag ∷ []) len (now (log .entry)) r (now (log .exit)) ⌝ }
+// A frame to seal under an epoch and send, with the number of rungs that were taken for it.
+pub fn prompt(log: &mut [u64; 768], len: usize, tag: u64, rungs: u64) -> usize
+    ensures { λ r. ⌜ Appends (Prompt tag rungs ∷ []) len (now (log .entry)) r (now (log .exit)) ⌝ }
 {
-    add(log, len, event::PROMPT, tag, 0, 0, 0, 0, 0)
+    add(log, len, event::PROMPT, tag, rungs, 0, 0, 0, 0)
 }
 
 // The plaintext from `start` up to `end` of the frame's buffer.

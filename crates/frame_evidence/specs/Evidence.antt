@@ -23,7 +23,7 @@ use Rattle.cycle.specs.Put.{putPendI, withProbes}
 use Rattle.candidates.specs.declared.Candidates.{Candidates}
 use Rattle.candidates.specs.Held.{clearedOf, keptAfter}
 use Rattle.state.specs.declared.Memory.{Memory}
-use Rattle.events.specs.Events.{Event, Prompt}
+use Rattle.events.specs.Events.{Event, Prompt, noRungs}
 use Rattle.events.specs.Log.{Appends}
 use Rattle.time.specs.Pick.{and}
 use Rattle.frame_evidence.specs.declared.Prompted.{Prompted}
@@ -135,7 +135,7 @@ shortened d moves hold now =
 unfoldable pub promptedNow : Epoch → Bool → ℕ → EpochStep
 promptedNow e asks now =
     pick (and asks (promptDue (e .prompted) now))
-    (record { ep = putPrompted e (at now); out = Prompt (e .tag) ∷ [] })
+    (record { ep = putPrompted e (at now); out = Prompt (e .tag) noRungs ∷ [] })
     (record { ep = e; out = [] })
 
 -- the last row of `heard_current`, "p.stayed = true": the peer was heard where it stays if it did

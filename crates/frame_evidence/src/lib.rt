@@ -161,7 +161,7 @@ pub fn prompt_now(ep: Epoch, asks: bool, time: u64, log: &mut [u64; 768], len: u
 {
     let passed = prompt_due(ep.prompted, time);
     if time::and(asks, passed) {
-        let n = events::prompt(log, len, ep.tag);
+        let n = events::prompt(log, len, ep.tag, events::NO_RUNGS);
         let w = When {
             some: true,
             at: time,

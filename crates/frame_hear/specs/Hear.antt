@@ -13,7 +13,7 @@ use Rattle.state.specs.declared.State.{State}
 use Rattle.state.specs.declared.Profile.{Profile}
 use Rattle.state.specs.declared.Given.{Given}
 use Rattle.state.specs.Parts.{putMem, putCur, putCycle}
-use Rattle.events.specs.Events.{Event, Prompt, Reverted}
+use Rattle.events.specs.Events.{Event, Prompt, Reverted, noRungs}
 use Rattle.events.specs.Log.{Appends}
 use Rattle.retire.specs.Retire.{abandonOut}
 use Rattle.grace.specs.Grace.{grace}
@@ -71,7 +71,7 @@ revertOf s cfg now =
         cycle = record { kind = cyclePendI; init = s .cycle .init; pendi = revertedPend (s .cur .ep) cfg now; pendr = s .cycle .pendr };
         cands = s .cands;
       };
-      out = Reverted (s .cur .ep .tag) ∷ Prompt (s .cur .ep .tag) ∷ Prompt (s .drain .ep .tag) ∷ [];
+      out = Reverted (s .cur .ep .tag) ∷ Prompt (s .cur .ep .tag) noRungs ∷ Prompt (s .drain .ep .tag) noRungs ∷ [];
     }
 
 -- ---- `heard_previous`

@@ -12,7 +12,7 @@ use Rattle.cycle.specs.Kind.{isInit, isPendI, isPendR}
 use Rattle.state.specs.declared.State.{State}
 use Rattle.state.specs.declared.Given.{Given}
 use Rattle.state.specs.Parts.{putMem}
-use Rattle.events.specs.Events.{Prompt}
+use Rattle.events.specs.Events.{Prompt, noRungs}
 use Rattle.retire.specs.Most.{abandon-most}
 use Rattle.frame_evidence.specs.Evidence.{EpochStep, promptDue, promptedNow, heardEpoch, confirming, heardAny, onlyAssumed}
 use Rattle.frame_hear.specs.Hear.{HearStep, hearing, heardCurrent, revertOf, assumedHeard, confirmingHeard, heardPrevious}
@@ -21,7 +21,7 @@ prompted-most : (e : Epoch) (asks : Bool) (now : ℕ) → length (promptedNow e 
 unfolding promptedNow
 prompted-most e asks now = under (and asks (promptDue (e .prompted) now))
   where
-    under : (b : Bool) → length (pick {A = EpochStep} b (record { ep = putPrompted e (at now); out = Prompt (e .tag) ∷ [] }) (record { ep = e; out = [] }) .out) ≤ 1
+    under : (b : Bool) → length (pick {A = EpochStep} b (record { ep = putPrompted e (at now); out = Prompt (e .tag) noRungs ∷ [] }) (record { ep = e; out = [] }) .out) ≤ 1
     under true = omega arith
     under false = omega arith
 

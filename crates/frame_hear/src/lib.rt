@@ -2,7 +2,7 @@
 // machine.rs, on the whole state.
 ghost use mathlib.Core.Path.{_≡_};
 ghost use mathlib.Core.List.{[], _∷_};
-ghost use Rattle.events.specs.Events.{Reverted, Prompt};
+ghost use Rattle.events.specs.Events.{Reverted, Prompt, noRungs};
 ghost use Rattle.events.specs.Log.{Appends};
 ghost use Rattle.frame_hear.specs.Hear.{givenOf, Did, hearing, heardCurrent, revertOf, assumedHeard, confirmingHeard, heardPrevious};
 use epoch::MayEpoch;
@@ -76,11 +76,11 @@ pub fn heard_current(
 
 // What a revert tells.
 fn revert_out(tag: u64, restored: u64, log: &mut [u64; 768], len: usize) -> usize
-    ensures { λ r. ⌜ Appends (Reverted tag ∷ Prompt tag ∷ Prompt restored ∷ []) len (now (log .entry)) r (now (log .exit)) ⌝ }
+    ensures { λ r. ⌜ Appends (Reverted tag ∷ Prompt tag noRungs ∷ Prompt restored noRungs ∷ []) len (now (log .entry)) r (now (log .exit)) ⌝ }
 {
     let a = events::reverted(log, len, tag);
-    let b = events::prompt(log, a, tag);
-    events::prompt(log, b, restored)
+    let b = events::prompt(log, a, tag, events::NO_RUNGS);
+    events::prompt(log, b, restored, events::NO_RUNGS)
 }
 
 // An assumed epoch goes back to pending, and the drained one is current again. Both are held.

@@ -3,7 +3,7 @@ use Prim.Native.Nat.{ℕ, _+_}
 use mathlib.Core.Bool.{Bool, true, false}
 use mathlib.Core.List.{List, [], _∷_}
 use lib.Dec.{leb, ltb}
-use lib.ListN.{getD, drop}
+use lib.ListN.{length, getD, drop}
 use Rattle.time.specs.declared.When.{When}
 use Rattle.time.specs.Pick.{pick}
 use Rattle.time.specs.Lists.{fold, takeWhile}
@@ -49,15 +49,15 @@ taking t r = record { next = t .next + 1; any = true; send = pick (r .silent) (t
 abbrev pub untaken : Ladder → Taking
 untaken l = record { next = l .next; any = false; send = false; latest = 0 }
 
--- what the rungs taken tell of a ladder
-abbrev pub told : Ladder → Taking → Took
-told l t =
-    record { ladder = record { origin = l .origin; sched = l .sched; next = t .next }; any = t .any; send = t .send; latest = t .latest; last = leb (l .sched .len) (t .next) }
+-- what n rungs taken tell of a ladder
+abbrev pub told : Ladder → ℕ → Taking → Took
+told l n t =
+    record { ladder = record { origin = l .origin; sched = l .sched; next = t .next }; any = t .any; taken = n; send = t .send; latest = t .latest; last = leb (l .sched .len) (t .next) }
 
 -- "Taking rungs moves the ladder past every due rung and tells whether one was a send, the latest
--- offset, and whether none is left."
+-- offset, and whether none is left." "Taking rungs from a ladder also tells the number taken."
 unfoldable pub takeOf : Ladder → ℕ → Took
-takeOf l now = told l (fold taking (untaken l) (dueRungs l now))
+takeOf l now = told l (length (dueRungs l now)) (fold taking (untaken l) (dueRungs l now))
 
 -- the instant of rung i, as the code finds it
 unfoldable pub instantOf : Ladder → ℕ → When

@@ -4,3 +4,4 @@ pub mod Rungs
 pub mod Ladder
 pub mod Worked
 pub mod Laws
+pub mod Taken

@@ -1,4 +1,5 @@
--- P1 to P11 of document 01, one table, against the definitions.
+-- P1 to P11 of document 01, one table, against the definitions; P8 to P10 with the number taken, of which
+-- request 2 says "P9 then gives 1 and P10 gives 3".
 use Prim.Native.Nat.{ℕ, _-_}
 use mathlib.Core.Bool.{true, false}
 use mathlib.Core.Path.{_≡_, refl}
@@ -33,9 +34,9 @@ pub record Table : Type 0 where
   pub p6 : probesOf maxRungs 1000 0 20 0 ≡ plan (keepalive 1 ∷ keepalive 2 ∷ keepalive 3 ∷ keepalive 4 ∷ keepalive 5 ∷ keepalive 6 ∷ keepalive 7 ∷ keepalive 8 ∷ keepalive 9 ∷ keepalive 10 ∷ keepalive 11 ∷ keepalive 12 ∷ keepalive 13 ∷ keepalive 14 ∷ keepalive 15 ∷ keepalive 16 ∷ []) 3
   pub p7-plan : probesOf maxRungs 5000 1 10000 3000 ≡ plan (keepalive 3000 ∷ send 5000 ∷ keepalive 8000 ∷ []) 0
   -- nothing taken, and the ladder as it was
-  pub p8 : takeOf (p7 0) 2999 ≡ record { ladder = p7 0; any = false; send = false; latest = 0; last = false }
-  pub p9 : takeOf (p7 0) 3000 ≡ record { ladder = past 1; any = true; send = false; latest = 3000; last = false }
-  pub p10 : takeOf (p7 0) 8000 ≡ record { ladder = past 3; any = true; send = true; latest = 8000; last = true }
+  pub p8 : takeOf (p7 0) 2999 ≡ record { ladder = p7 0; any = false; taken = 0; send = false; latest = 0; last = false }
+  pub p9 : takeOf (p7 0) 3000 ≡ record { ladder = past 1; any = true; taken = 1; send = false; latest = 3000; last = false }
+  pub p10 : takeOf (p7 0) 8000 ≡ record { ladder = past 3; any = true; taken = 3; send = true; latest = 8000; last = true }
   -- due at the origin, and not before
   pub p11 : (nextAtOf (p7 lateOrigin) ≡ at lateOrigin) × (dueOf (p7 lateOrigin) lateOrigin ≡ true) × (dueOf (p7 lateOrigin) (lateOrigin - 1) ≡ false)
 

@@ -62,6 +62,8 @@ pub struct Took {
     pub ladder: Ladder,
     // Some rung was due.
     pub any: bool,
+    // How many rungs were taken, keepalives too.
+    pub taken: u64,
     // Some rung taken was no keepalive.
     pub send: bool,
     // The offset of the last rung taken.
@@ -303,6 +305,13 @@ fn sends(silent: bool, before: bool) -> bool
     if silent { before } else { true }
 }
 
+// How many rungs a cursor passed.
+fn passed(from: u8, to: u8) -> u64
+    ensures { λ r. ⌜ r ≡ to - from ⌝ }
+{
+    time::since(to as u64, from as u64)
+}
+
 impl Ladder {
     // A ladder whose first rung is the schedule's first offset after `origin`.
     pub fn new(origin: u64, sched: Schedule) -> Ladder
@@ -384,11 +393,13 @@ impl Ladder {
         while self.instant(t.next).reached(now) {
             t = self.step(t);
         }
+        let taken = passed(self.next, t.next);
         let mut moved = self;
         moved.next = t.next;
         Took {
             ladder: moved,
             any: t.any,
+            taken: taken,
             send: t.send,
             latest: t.latest,
             last: moved.sched.len <= t.next,

@@ -11,7 +11,7 @@ nextAfter l now = takeOf l now .ladder .next
 
 -- what was taken
 abbrev pub takenOf : Ladder → ℕ → Taken
-takenOf l now = record { any = takeOf l now .any; send = takeOf l now .send; latest = takeOf l now .latest; last = takeOf l now .last }
+takenOf l now = record { any = takeOf l now .any; taken = takeOf l now .taken; send = takeOf l now .send; latest = takeOf l now .latest; last = takeOf l now .last }
 
 -- the ladder with another next index
 abbrev pub movedTo : Ladder → ℕ → Ladder

@@ -4,10 +4,11 @@ ghost use mathlib.Core.Path.{_≡_};
 ghost use Rattle.ladder_lent.specs.Lent.{nextAfter, takenOf, movedTo};
 use ladder::Ladder;
 
-// What was taken: whether some rung was due, whether one was no keepalive, the offset of the last
-// one, and whether none is left.
+// What was taken: whether some rung was due, how many were, whether one was no keepalive, the offset of
+// the last one, and whether none is left.
 pub struct Taken {
     pub any: bool,
+    pub taken: u64,
     pub send: bool,
     pub latest: u64,
     pub last: bool,
@@ -28,6 +29,7 @@ pub fn rungs_of(l: Ladder, at: u64) -> Taken
     let t = l.take(at);
     Taken {
         any: t.any,
+        taken: t.taken,
         send: t.send,
         latest: t.latest,
         last: t.last,

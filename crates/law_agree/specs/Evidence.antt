@@ -18,7 +18,7 @@ use Rattle.candidates.specs.declared.Candidates.{Candidates}
 use Rattle.candidates.specs.Held.{keptAfter}
 use Rattle.state.specs.declared.Memory.{Memory}
 use Rattle.state.specs.Stands.{whenView, epochView, drainView, pendIView, cycleView, candidatesView, memoryView}
-use Rattle.events.specs.Events.{Prompt}
+use Rattle.events.specs.Events.{Prompt, noRungs}
 use Rattle.time.specs.Pick.{and, and-left}
 use Rattle.frame_evidence.specs.Evidence.{EpochStep, putHeard, putMoved, blindTo, promptDue, staying, movesNow, heardFirst, heardCands, movedFirst, shortened, promptedNow, stayedNow, heardEpoch, unassumed, revertedPend, heardAny, onlyAssumed, confirming}
 use Rattle.law_alike.specs.Optional.{Same, when, related, some-when}
@@ -82,7 +82,7 @@ module _ {x y : Epoch} (h : AlikeEpoch x y) where
   unfolding promptedNow
   prompted-now e now =
       related2 EpochSteps e (λ _. prompt-due (h .prompted) now)
-      (λ _ _. record { ep = put-elicit h (h .elicit) (record { eq = refl }); out = ap (λ n. Prompt n ∷ []) (h .tag) })
+      (λ _ _. record { ep = put-elicit h (h .elicit) (record { eq = refl }); out = ap (λ n. Prompt n noRungs ∷ []) (h .tag) })
       (record { ep = epoch-whole h; out = refl })
 
   pub heard-cands : {v w : Candidates} → Same candidatesView v w → (smaller : Bool) → Same candidatesView (heardCands v x smaller) (heardCands w y smaller)

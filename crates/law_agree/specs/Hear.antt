@@ -7,7 +7,7 @@ use Rattle.settings.specs.declared.Config.{Config}
 use Rattle.state.specs.declared.State.{State}
 use Rattle.state.specs.declared.Given.{Given}
 use Rattle.state.specs.Stands.{pendI, cycleView}
-use Rattle.events.specs.Events.{Reverted, Prompt}
+use Rattle.events.specs.Events.{Reverted, Prompt, noRungs}
 use Rattle.frame_hear.specs.Hear.{HearStep, hearing, heardCurrent, revertOf, assumedHeard, confirmingHeard, heardPrevious}
 use Rattle.law_alike.specs.Optional.{related}
 use Rattle.law_alike.specs.Parts.{memory-fields}
@@ -62,7 +62,7 @@ module _ {s t : State} (a : Alike s t) (held : s .cur .some ≡ true) (drained :
           cycle = record { eq = ap pendI (reverted-pend h cfg now .eq) };
           cands = a .cands;
         };
-        out = ap₂ (λ n m. Reverted n ∷ Prompt n ∷ Prompt m ∷ []) (h .tag) (d .ep .tag);
+        out = ap₂ (λ n m. Reverted n ∷ Prompt n noRungs ∷ Prompt m noRungs ∷ []) (h .tag) (d .ep .tag);
       }
 
   assumed-heard : (g : Given) → HearSteps (assumedHeard s g) (assumedHeard t g)

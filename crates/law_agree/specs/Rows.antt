@@ -23,7 +23,7 @@ use Rattle.cycle.specs.Kind.{isInit, isPendI, isPendR, idled}
 use Rattle.cycle.specs.Put.{putInit, putPendI, movedInit, withFin, withProbes}
 use Rattle.state.specs.declared.Memory.{Memory}
 use Rattle.state.specs.Stands.{some, whenView, ladderView, finalView, mayLadderView, epochView, drainView, attemptView, pendIView, cycleView, memoryView}
-use Rattle.events.specs.Events.{Send, Teardown}
+use Rattle.events.specs.Events.{Send, Prompt, Teardown}
 use Rattle.retire.specs.Retire.{only}
 use Rattle.poll_epoch.specs.EpochRows.{DrainStep, CurStep, drainDue, finTaken, finDue, elicitTaken, elicitDue}
 use Rattle.poll_cycle.specs.CycleRows.{CycleStep, FailStep, unadoptedDue, lateFor, probing, probeDue, delayedDue, resendTaken, resendDue, abandonedMem, expireDue}
@@ -173,12 +173,12 @@ module _ {c d : Cycle} (h : AlikeCycle c d) where
 
   probing-alike : {t u : Took} → isPendI (c .kind) ≡ true → AlikeTook t u → {g g′ : ℕ} → g ≡ g′ → (now : ℕ) {x y : ℕ} → x ≡ y → CycleSteps (probing c t g now x) (probing d u g′ now y)
   unfolding probing
-  probing-alike q k r now e =
+  probing-alike {t = t} q k r now e =
       let f = h .pendi q in
       let l = may-whole (may-some (f .probes)) (λ _. k .ladder) in
       related CycleSteps (anded (k .send) (λ _. ap not (late-alike q r now)))
-      (λ _. record { cycle = put-pendi h (λ _. with-probes f l (record { eq = refl }) refl); out = cc (fin-send (f .fin) 4, epoch-fields (f .ep) .tag, e) })
-      (λ _. record { cycle = put-pendi h (λ _. with-probes f l (f .probed) (f .stayed)); out = cc e })
+      (λ _. record { cycle = put-pendi h (λ _. with-probes f l (record { eq = refl }) refl); out = cc (fin-send (f .fin) 4 (t .taken), epoch-fields (f .ep) .tag, e, k .taken) })
+      (λ _. record { cycle = put-pendi h (λ _. with-probes f l (f .probed) (f .stayed)); out = cc (e, k .taken) })
 
   pub probe-due : {b b′ : Bool} {x y g g′ : ℕ} → b ≡ b′ → (b ≡ true → x ≡ y) → g ≡ g′ → (tag now : ℕ) → CycleSteps (probeDue c b x g tag now) (probeDue d b′ y g′ tag now)
   unfolding probeDue
@@ -198,7 +198,7 @@ module _ {c d : Cycle} (h : AlikeCycle c d) where
       related3 CycleSteps (own-alike h tag) (λ q. fin-some (h .pendi (own-is c tag q) .fin))
       (λ q r. take-alike (fin-ladder (h .pendi (own-is c tag q) .fin) r) now .any)
       (λ q r. let f = h .pendi (own-is c tag q) in
-      record { cycle = put-pendi h (λ _. with-fin f (fin-whole (fin-some (f .fin)) (λ _. fin-msg (f .fin) r) (λ _. take-alike (fin-ladder (f .fin) r) now .ladder))); out = ap (λ m. Send m 4 ∷ []) (fin-msg (f .fin) r) })
+      record { cycle = put-pendi h (λ _. with-fin f (fin-whole (fin-some (f .fin)) (λ _. fin-msg (f .fin) r) (λ _. take-alike (fin-ladder (f .fin) r) now .ladder))); out = ap₂ (λ m n. Send m 4 n ∷ []) (fin-msg (f .fin) r) (take-alike (fin-ladder (f .fin) r) now .taken) })
       (record { cycle = h .whole; out = refl })
 
   resend-taken : {t u : Took} → isInit (c .kind) ≡ true → AlikeTook t u → {b b′ : Bool} → b ≡ b′ → (young messages : ℕ) → CycleSteps (resendTaken c t b young messages) (resendTaken d u b′ young messages)
@@ -207,7 +207,7 @@ module _ {c d : Cycle} (h : AlikeCycle c d) where
       let f = h .init q in
       related CycleSteps (anded e (λ _. ap (λ n. ltb n young) (k .latest)))
       (λ _. record { cycle = put-init h (λ _. moved-init f (k .ladder) (f .resent)); out = refl })
-      (λ _. record { cycle = put-init h (λ _. moved-init f (k .ladder) refl); out = cc (f .out) })
+      (λ _. record { cycle = put-init h (λ _. moved-init f (k .ladder) refl); out = cc (f .out, k .taken) })
 
   pub resend-due : {b b′ : Bool} → b ≡ b′ → (young messages now : ℕ) → CycleSteps (resendDue c b young messages now) (resendDue d b′ young messages now)
   unfolding resendDue
@@ -230,7 +230,7 @@ module _ {c d : MayEpoch} (e : Same curView c d) where
       let h = cur-ep e q in
       record {
         cur = cur-whole (cur-some e) (λ _. put-fin h (fin-whole (ap not (k .last)) (λ _. fin-msg (h .fin) r) (λ _. k .ladder)));
-        out = cc (fin-msg (h .fin) r);
+        out = cc (fin-msg (h .fin) r, k .taken);
         due = cc (k .last, some-when (h .heard));
       }
 
@@ -247,7 +247,7 @@ module _ {c d : MayEpoch} (e : Same curView c d) where
   elicit-taken q k tag now =
       record {
         cur = cur-whole (cur-some e) (λ _. put-elicit (cur-ep e q) (may-whole (ap not (k .last)) (λ _. k .ladder)) (record { eq = refl }));
-        out = refl;
+        out = ap (λ n. Prompt tag n ∷ []) (k .taken);
         due = refl;
       }
 

@@ -53,5 +53,5 @@ delegate-out {x} {y} h workers =
     )
 
 -- a final message that is held is sent
-pub fin-send : {f g : Final} → Same finalView f g → (kind : ℕ) → only (f .some) (Send (f .msg) kind) ≡ only (g .some) (Send (g .msg) kind)
-fin-send e kind = picked (fin-some e) (λ q. ap (λ m. Send m kind ∷ []) (fin-msg e q)) (λ _. refl)
+pub fin-send : {f g : Final} → Same finalView f g → (kind rungs : ℕ) → only (f .some) (Send (f .msg) kind rungs) ≡ only (g .some) (Send (g .msg) kind rungs)
+fin-send e kind rungs = picked (fin-some e) (λ q. ap (λ m. Send m kind rungs ∷ []) (fin-msg e q)) (λ _. refl)

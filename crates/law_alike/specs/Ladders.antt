@@ -14,6 +14,7 @@ use Rattle.law_alike.specs.Parts.{ladder-fields}
 pub record AlikeTook (a b : Took) : Type 0 where
   pub ladder : Same ladderView (a .ladder) (b .ladder)
   pub any : a .any ≡ b .any
+  pub taken : a .taken ≡ b .taken
   pub send : a .send ≡ b .send
   pub latest : a .latest ≡ b .latest
   pub last : a .last ≡ b .last
@@ -30,6 +31,7 @@ module _ {l m : Ladder} (e : Same ladderView l m) where
       record {
         ladder = record { eq = rw (h .origin, h .rungs, h .next, h .len) };
         any = rw (h .origin, h .rungs, h .next);
+        taken = rw (h .origin, h .rungs, h .next);
         send = rw (h .origin, h .rungs, h .next);
         latest = rw (h .origin, h .rungs, h .next);
         last = rw (h .origin, h .rungs, h .next, h .len);

@@ -155,7 +155,7 @@ module _ (s : State) where
   probe-paid cur current g key now =
       by-test (λ t. Paid s 3 (onCycle s t)) (and (and cur (and (isOwn (s .cycle) key) (s .cycle .pendi .probes .some))) (takeOf (s .cycle .pendi .probes .ladder) now .any)) _ _
       (λ e. by-test (λ t. Paid s 3 (onCycle s t)) (and (takeOf (s .cycle .pendi .probes .ladder) now .send) (not (lateFor (s .cycle .pendi) g now))) _ _
-      (λ e. simp length-append (omega (arith, only-most (s .cycle .pendi .fin .some) (Send (s .cycle .pendi .fin .msg) 4))))
+      (λ e. simp length-append (omega (arith, only-most (s .cycle .pendi .fin .some) (Send (s .cycle .pendi .fin .msg) 4 (takeOf (s .cycle .pendi .probes .ladder) now .taken)))))
       (λ e. omega arith))
       (λ e. omega arith)
 

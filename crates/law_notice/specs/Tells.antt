@@ -16,7 +16,7 @@ use Rattle.cycle.specs.Kind.{isInit, isPendI, isPendR}
 use Rattle.state.specs.declared.State.{State}
 use Rattle.state.specs.declared.Profile.{Profile}
 use Rattle.state.specs.declared.Given.{Given}
-use Rattle.events.specs.Events.{Event, Prompt, Unbind, Release, Reverted, Reject, Abandoned, wordsOf}
+use Rattle.events.specs.Events.{Event, Prompt, Unbind, Release, Reverted, Reject, Abandoned, wordsOf, noRungs}
 use Rattle.retire.specs.Retire.{only, abandonOut}
 use Rattle.refusal.specs.Refusal.{anyOf, beforeFrame}
 use Rattle.answer.specs.Outcome.{Outcome, done}
@@ -32,7 +32,7 @@ use Rattle.law_notice.specs.Most.{current-tells}
 
 -- events that are none of hearing's
 pub record Spares (q : Event → Bool) : Type 0 where
-  pub prompt : (tag : ℕ) → q (Prompt tag) ≡ false
+  pub prompt : (tag : ℕ) → q (Prompt tag noRungs) ≡ false
   pub unbind : (transport index : ℕ) → q (Unbind transport index) ≡ false
   pub release : (index : ℕ) → q (Release index) ≡ false
   pub reverted : (tag : ℕ) → q (Reverted tag) ≡ false
@@ -49,15 +49,15 @@ module _ (q : Event → Bool) where
     prompted-none e asks now =
         of-choice (λ (x : EpochStep). anyOf q (x .out) ≡ false) (and asks (promptDue (e .prompted) now)) _ _ (rw (h .prompt (e .tag))) refl
 
-    revert-none : (n m : ℕ) → anyOf q (Reverted n ∷ Prompt n ∷ Prompt m ∷ []) ≡ false
+    revert-none : (n m : ℕ) → anyOf q (Reverted n ∷ Prompt n noRungs ∷ Prompt m noRungs ∷ []) ≡ false
     unfolding anyOf
     revert-none n m = rw (h .reverted n, h .prompt n, h .prompt m)
 
-    abandon-none : (a : Attempt) (n m : ℕ) → anyOf q (abandonOut a 6 ++ (Reverted n ∷ Prompt n ∷ Prompt m ∷ [])) ≡ false
+    abandon-none : (a : Attempt) (n m : ℕ) → anyOf q (abandonOut a 6 ++ (Reverted n ∷ Prompt n noRungs ∷ Prompt m noRungs ∷ [])) ≡ false
     unfolding abandonOut anyOf
     abandon-none a n m = under (a .lease .some)
       where
-        under : (b : Bool) → anyOf q ((only b (Unbind (a .transport) (a .lease .index)) ++ (only b (Release (a .lease .index)) ++ (Abandoned 6 ∷ []))) ++ (Reverted n ∷ Prompt n ∷ Prompt m ∷ [])) ≡ false
+        under : (b : Bool) → anyOf q ((only b (Unbind (a .transport) (a .lease .index)) ++ (only b (Release (a .lease .index)) ++ (Abandoned 6 ∷ []))) ++ (Reverted n ∷ Prompt n noRungs ∷ Prompt m noRungs ∷ [])) ≡ false
         under true = rw (h .unbind (a .transport) (a .lease .index), h .release (a .lease .index), h .abandoned 6, h .reverted n, h .prompt n, h .prompt m)
         under false = rw (h .abandoned 6, h .reverted n, h .prompt n, h .prompt m)
 

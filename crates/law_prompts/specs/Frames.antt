@@ -1,7 +1,10 @@
--- No prompt of a frame is one that would be withdrawn: each names the current epoch that the frame
--- leaves, or its pending epoch that waits for evidence. So a frame withdraws none.
+-- The events of a frame: what holds, by the state that the frame leaves, of each event that is neither a
+-- send nor a prompt, and of a prompt from no ladder that names the current epoch or the pending one which
+-- waits for evidence, holds of every event of the frame.
+--
+-- So no prompt of a frame is one that would be withdrawn, and each carries 0 for the rungs taken.
 use Prim.Native.Nat.{ℕ}
-use mathlib.Core.Bool.{Bool}
+use mathlib.Core.Bool.{Bool, true}
 use mathlib.Core.Path.{_≡_, refl, ap, ap₂}
 use mathlib.Core.List.{List}
 use lib.Dec.{eqb}
@@ -16,8 +19,8 @@ use Rattle.state.specs.declared.State.{State}
 use Rattle.state.specs.declared.Profile.{Profile}
 use Rattle.state.specs.declared.Given.{Given}
 use Rattle.state.specs.Parts.{putMem}
-use Rattle.events.specs.Events.{Event, Prompt, Reverted, Mark}
-use Rattle.events.specs.Withdraw.{given, wordsStay}
+use Rattle.events.specs.Events.{Event, Prompt, noRungs}
+use Rattle.events.specs.Withdraw.{given, stays}
 use Rattle.time.specs.Pick.{and, and-left}
 use Rattle.cutover.specs.Cutover.{cutoverOf}
 use Rattle.poll_close.specs.Closing.{waitsFor, sealing}
@@ -28,9 +31,8 @@ use Rattle.frame_slots.specs.Frame.{FrameStep, pendOf, pendingFrame, currentFra
 use Rattle.answer.specs.Outcome.{Outcome}
 use Rattle.answer.specs.Laws.{by-either}
 use Rattle.frame.specs.Frames.{frameRefused, heard, frameAnswer}
-use Rattle.law_prompts.specs.Stays.{AllStay, none-stay, both-stay, more-stay, current-stays, pending-stays, abandoned-stay, ended-stay, delivered-stay, given-up-stay, announced-stay, prompted-stay}
-
--- ---- what stays, by the state that is left
+use Rattle.law_prompts.specs.Every.{Every, Others, every-none, every-both, every-more, abandoned-every, ended-every, delivered-every, given-up-every, announced-every, prompted-every}
+use Rattle.law_prompts.specs.Stays.{others-stay, current-stays, pending-stays}
 
 -- the current epoch's tag
 abbrev pub current : State → When
@@ -40,95 +42,125 @@ current s = given (s .cur .some) (s .cur .ep .tag)
 abbrev pub waiting : State → When
 waiting s = given (waitsFor (s .cycle .kind) (s .cycle .pendi .wait)) (s .cycle .pendi .ep .tag)
 
-abbrev pub Keeps : State → List Event → Type 0
-Keeps s l = AllStay (current s) (waiting s) l
-
-abbrev pub HearKeeps : HearStep → Type 0
-HearKeeps t = Keeps (t .state) (t .out)
-
-abbrev FrameKeeps : FrameStep → Type 0
-FrameKeeps t = Keeps (t .state) (t .out)
-
--- ---- hearing
+-- what is asked of a test of events by the state that is left
+pub record Fits (p : State → Event → Bool) : Type 0 where
+  pub others : (s : State) → Others (p s)
+  pub under-current : (s : State) (tag : ℕ) → current s ≡ at tag → p s (Prompt tag noRungs) ≡ true
+  pub under-pending : (s : State) (tag : ℕ) → waiting s ≡ at tag → p s (Prompt tag noRungs) ≡ true
 
 -- a prompt leaves the epoch's tag
 prompted-tag : (e : Epoch) (asks : Bool) (now : ℕ) → promptedNow e asks now .ep .tag ≡ e .tag
 unfolding promptedNow
 prompted-tag e asks now = of-choice (λ (t : EpochStep). t .ep .tag ≡ e .tag) (and asks (promptDue (e .prompted) now)) _ _ refl refl
 
-hearing-keeps : (s : State) (g : Given) (k blind : Bool) → HearKeeps (hearing s g k blind)
-unfolding hearing heardEpoch
-hearing-keeps s g k blind =
-    let e = movedFirst (heardFirst (s .cur .ep) (g .now)) blind (g .now) in
-    prompted-stay _ _ e blind (g .now) (λ q. ap at (prompted-tag e blind (g .now)))
+module _ (p : State → Event → Bool) (f : Fits p) where
+  -- of every event, by the state that is left
+  abbrev pub Holds : State → List Event → Type 0
+  Holds s l = Every (p s) l
 
-pub current-keeps : (s : State) (g : Given) (k probe : Bool) → HearKeeps (heardCurrent s g k probe)
-unfolding heardCurrent
-current-keeps s g k probe =
-    of-choice HearKeeps (s .cur .some) _ _
-    (hearing-keeps s g k (blindTo (s .cur .ep) (g .profile .«at_proof») probe))
-    (none-stay _ _)
+  abbrev pub HearHolds : HearStep → Type 0
+  HearHolds t = Holds (t .state) (t .out)
 
--- the assumed epoch is pending again and waits for evidence, the drained one is current again
-revert-keeps : (s : State) (cfg : Config) (now : ℕ) → HearKeeps (revertOf s cfg now)
-unfolding revertOf revertedPend unassumed waitsFor wordsStay
-revert-keeps s cfg now =
-    more-stay _ _ (Reverted _) _ refl
-    (more-stay _ _ (Prompt _) _ (pending-stays _ _ (s .cur .ep .tag) refl)
-    (more-stay _ _ (Prompt _) _ (current-stays _ _ (s .drain .ep .tag) refl) (none-stay _ _)))
+  abbrev FrameHolds : FrameStep → Type 0
+  FrameHolds t = Holds (t .state) (t .out)
 
-assumed-keeps : (s : State) (g : Given) → HearKeeps (assumedHeard s g)
-unfolding assumedHeard
-assumed-keeps s g =
-    of-choice HearKeeps (isInit (s .cycle .kind)) _ _
-    (both-stay _ _ _ _ (abandoned-stay _ _ (s .cycle .init) 6) (revert-keeps s (g .cfg) (g .now)))
-    (of-choice HearKeeps (isPendI (s .cycle .kind)) _ _ (none-stay _ _)
-    (of-choice HearKeeps (isPendR (s .cycle .kind)) _ _ (none-stay _ _) (revert-keeps s (g .cfg) (g .now))))
+  -- ---- hearing
 
--- a prompt while confirming is under a current epoch that is held
-confirming-keeps : (s : State) (g : Given) → HearKeeps (confirmingHeard s g)
-unfolding confirmingHeard confirming
-confirming-keeps s g =
-    let asks = confirming (s .cur) (g .profile .«at_proof») (g .cfg) (g .now) in
-    prompted-stay _ _ (s .cur .ep) asks (g .now)
-    (λ q. ap₂ given (and-left (s .cur .some) _ (and-left _ _ q)) (prompted-tag (s .cur .ep) asks (g .now)))
+  hearing-holds : (s : State) (g : Given) (k blind : Bool) → HearHolds (hearing s g k blind)
+  unfolding hearing heardEpoch
+  hearing-holds s g k blind =
+      let e = movedFirst (heardFirst (s .cur .ep) (g .now)) blind (g .now) in
+      prompted-every _ (f .others _) e blind (g .now) (λ q. f .under-current _ (e .tag) (ap at (prompted-tag e blind (g .now))))
 
-pub previous-keeps : (s : State) (g : Given) → HearKeeps (heardPrevious s g)
-unfolding heardPrevious
-previous-keeps s g =
-    let t = putMem s (heardAny (s .mem) (g .now)) in
-    of-choice HearKeeps (onlyAssumed (s .cur)) _ _ (assumed-keeps t g) (confirming-keeps t g)
+  pub current-holds : (s : State) (g : Given) (k probe : Bool) → HearHolds (heardCurrent s g k probe)
+  unfolding heardCurrent
+  current-holds s g k probe =
+      of-choice HearHolds (s .cur .some) _ _
+      (hearing-holds s g k (blindTo (s .cur .ep) (g .profile .«at_proof») probe))
+      (every-none _)
 
--- ---- the whole
+  -- the assumed epoch is pending again and waits for evidence, the drained one is current again
+  revert-holds : (s : State) (cfg : Config) (now : ℕ) → HearHolds (revertOf s cfg now)
+  unfolding revertOf revertedPend unassumed waitsFor
+  revert-holds s cfg now =
+      every-more _ _ _ (f .others _ _ refl)
+      (every-more _ _ _ (f .under-pending _ (s .cur .ep .tag) refl)
+      (every-more _ _ _ (f .under-current _ (s .drain .ep .tag) refl) (every-none _)))
 
-module _ (s : State) (g : Given) (spread : ℤ) (p : FrameProof) (body : ℕ) (source target : List ℕ) where
-  pending-frame-keeps : FrameKeeps (pendingFrame s g spread p body source target)
-  unfolding pendingFrame cutoverOf
-  pending-frame-keeps =
-      both-stay _ _ _ _ (ended-stay _ _ (s .cycle))
-      (both-stay _ _ _ _
-      (both-stay _ _ _ _ (given-up-stay _ _ (s .drain) (s .cur .ep) (pendOf (s .cycle) (p .k) .restart)) (announced-stay _ _ _ _ _ _ _ refl))
-      (delivered-stay _ _ _ _ _ _ _ _ _))
+  assumed-holds : (s : State) (g : Given) → HearHolds (assumedHeard s g)
+  unfolding assumedHeard
+  assumed-holds s g =
+      of-choice HearHolds (isInit (s .cycle .kind)) _ _
+      (every-both _ _ _ (abandoned-every _ (f .others _) (s .cycle .init) 6) (revert-holds s (g .cfg) (g .now)))
+      (of-choice HearHolds (isPendI (s .cycle .kind)) _ _ (every-none _)
+      (of-choice HearHolds (isPendR (s .cycle .kind)) _ _ (every-none _) (revert-holds s (g .cfg) (g .now))))
 
-  slot-keeps : FrameKeeps (slotFrame s g spread p body source target)
-  unfolding slotFrame currentFrame previousFrame
-  slot-keeps =
-      of-choice FrameKeeps (eqb (p .slot) 1) _ _ pending-frame-keeps
-      (of-choice FrameKeeps (eqb (p .slot) 0) _ _
-      (both-stay _ _ _ _ (delivered-stay _ _ _ _ _ _ _ _ _) (current-keeps s g (p .k) (p .probe)))
-      (both-stay _ _ _ _ (delivered-stay _ _ _ _ _ _ _ _ _) (previous-keeps s g)))
+  -- a prompt while confirming is under a current epoch that is held
+  confirming-holds : (s : State) (g : Given) → HearHolds (confirmingHeard s g)
+  unfolding confirmingHeard confirming
+  confirming-holds s g =
+      let asks = confirming (s .cur) (g .profile .«at_proof») (g .cfg) (g .now) in
+      prompted-every _ (f .others _) (s .cur .ep) asks (g .now)
+      (λ q. f .under-current _ (s .cur .ep .tag) (ap₂ given (and-left (s .cur .some) _ (and-left _ _ q)) (prompted-tag (s .cur .ep) asks (g .now))))
 
-  frame-of-keeps : FrameKeeps (frameOf s g spread p body source target)
-  unfolding frameOf wordsStay
-  frame-of-keeps = more-stay _ _ (Mark _ _) _ refl slot-keeps
+  pub previous-holds : (s : State) (g : Given) → HearHolds (heardPrevious s g)
+  unfolding heardPrevious
+  previous-holds s g =
+      let t = putMem s (heardAny (s .mem) (g .now)) in
+      of-choice HearHolds (onlyAssumed (s .cur)) _ _ (assumed-holds t g) (confirming-holds t g)
 
-module _ (s : State) (cfg : Config) (profile : Profile) (time : ℕ) (workers : Bool) (spread : ℤ) (p : FrameProof) (body : ℕ) (source target : List ℕ) where
+  -- ---- the whole
+
+  module _ (s : State) (g : Given) (spread : ℤ) (q : FrameProof) (body : ℕ) (source target : List ℕ) where
+    pending-frame-holds : FrameHolds (pendingFrame s g spread q body source target)
+    unfolding pendingFrame cutoverOf
+    pending-frame-holds =
+        every-both _ _ _ (ended-every _ (f .others _) (s .cycle))
+        (every-both _ _ _
+        (every-both _ _ _ (given-up-every _ (f .others _) (s .drain) (s .cur .ep) (pendOf (s .cycle) (q .k) .restart)) (announced-every _ (f .others _) _ _ _ _ _ (f .under-current _ _ refl)))
+        (delivered-every _ (f .others _) _ _ _ _ _ _ _))
+
+    slot-holds : FrameHolds (slotFrame s g spread q body source target)
+    unfolding slotFrame currentFrame previousFrame
+    slot-holds =
+        of-choice FrameHolds (eqb (q .slot) 1) _ _ pending-frame-holds
+        (of-choice FrameHolds (eqb (q .slot) 0) _ _
+        (every-both _ _ _ (delivered-every _ (f .others _) _ _ _ _ _ _ _) (current-holds s g (q .k) (q .probe)))
+        (every-both _ _ _ (delivered-every _ (f .others _) _ _ _ _ _ _ _) (previous-holds s g)))
+
+    frame-of-holds : FrameHolds (frameOf s g spread q body source target)
+    unfolding frameOf
+    frame-of-holds = every-more _ _ _ (f .others _ _ refl) slot-holds
+
+  module _ (s : State) (cfg : Config) (profile : Profile) (time : ℕ) (workers : Bool) (spread : ℤ) (q : FrameProof) (body : ℕ) (source target : List ℕ) where
+    abbrev frameSaid : Outcome
+    frameSaid = frameAnswer s cfg profile time workers spread q body source target
+
+    pub frame-holds : Holds (frameSaid .state) (frameSaid .out)
+    unfolding frameAnswer
+    frame-holds =
+        by-either (frameRefused s cfg profile spread (q .slot) (q .tag)) s (heard (frameOf s (givenOf cfg profile time workers) spread q body source target)) (λ o. Holds (o .state) (o .out)) (every-none _)
+        (frame-of-holds s (givenOf cfg profile time workers) spread q body source target)
+
+-- ---- withdrawing
+
+-- an event that stays, by the state that is left
+abbrev pub staying : State → Event → Bool
+staying s e = stays (current s) (waiting s) e
+
+pub staying-fits : Fits staying
+staying-fits =
+    record {
+      others = λ s. others-stay (current s) (waiting s);
+      under-current = λ s tag e. current-stays (current s) (waiting s) tag noRungs e;
+      under-pending = λ s tag e. pending-stays (current s) (waiting s) tag noRungs e;
+    }
+
+module _ (s : State) (cfg : Config) (profile : Profile) (time : ℕ) (workers : Bool) (spread : ℤ) (q : FrameProof) (body : ℕ) (source target : List ℕ) where
   abbrev answer : Outcome
-  answer = frameAnswer s cfg profile time workers spread p body source target
+  answer = frameAnswer s cfg profile time workers spread q body source target
 
   -- to withdraw, by the state that a frame leaves, leaves its events as they are
   pub frame-keeps-prompts : sealing (answer .state) (answer .out) ≡ answer .out
-  unfolding sealing frameAnswer
-  frame-keeps-prompts =
-      by-either (frameRefused s cfg profile spread (p .slot) (p .tag)) s (heard (frameOf s (givenOf cfg profile time workers) spread p body source target)) (λ o. Keeps (o .state) (o .out)) (none-stay _ _)
-      (frame-of-keeps s (givenOf cfg profile time workers) spread p body source target)
+  unfolding sealing
+  frame-keeps-prompts = frame-holds staying staying-fits s cfg profile time workers spread q body source target

@@ -1,1 +1,2 @@
-// Laws about the prompts that a frame tells. No code: see specs/.
+// Laws about the sends and prompts that a call tells: which stay, and the number of rungs on each. No code: see
+// specs/.

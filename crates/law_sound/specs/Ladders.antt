@@ -8,26 +8,20 @@ use native.Mathlib.Omega.{arith}
 use lib.ListN.{length, drop, length-take, length-drop}
 use Rattle.time.specs.declared.When.{When}
 use Rattle.time.specs.Pick.{pick}
-use Rattle.time.specs.Lists.{fold, takeWhile}
+use Rattle.time.specs.Lists.{takeWhile}
 use Rattle.time.specs.Time.{none, at}
 use Rattle.time.specs.Laws.{least-le}
 use Rattle.ladder.specs.declared.Ladder.{Ladder}
 use Rattle.ladder.specs.declared.Schedule.{Schedule}
-use Rattle.ladder.specs.declared.Taking.{Taking}
 use Rattle.ladder.specs.Schedule.{Rung, Plan, maxRungs, cut, doublingOf, probesOf, laid, madeOf, rungsOf, heldOf}
 use Rattle.ladder.specs.Rungs.{length-rungs}
-use Rattle.ladder.specs.Ladder.{remaining, isDue, dueRungs, taking, untaken, takeOf}
+use Rattle.ladder.specs.Ladder.{remaining, isDue, dueRungs, untaken, takeOf}
+use Rattle.ladder.specs.Taken.{cursor-after}
 use Rattle.settings.specs.declared.Config.{Config}
 use Rattle.params.specs.Params.{budgetOf, firstMade, elicitMade, revertMade}
 use Rattle.law_refusal.specs.Sound.{Within}
 
 -- ---- taking
-
--- each rung taken moves the cursor by one
-taken : (l : List Rung) (t : Taking) → fold taking t l .next ≡ t .next + length l
-unfolding fold taking
-taken [] t = omega arith
-taken (r ∷ l) t = taken l (record { next = t .next + 1; any = true; send = pick (r .silent) (t .send) true; latest = r .offset }) ∙ omega arith
 
 while-most : (p : Rung → Bool) (l : List Rung) → length (takeWhile p l) ≤ length l
 unfolding takeWhile
@@ -57,7 +51,7 @@ due-most l now =
 pub take-within : (l : Ladder) (now : ℕ) → Within (l .sched .len) (l .next) → Within (takeOf l now .ladder .sched .len) (takeOf l now .ladder .next)
 unfolding takeOf
 take-within l now w =
-    record { rungs = w .rungs; cursor = omega (arith, taken (dueRungs l now) (untaken l), due-most l now, w .cursor) }
+    record { rungs = w .rungs; cursor = omega (arith, cursor-after (untaken l) (dueRungs l now), due-most l now, w .cursor) }
 
 -- ---- schedules made anew
 

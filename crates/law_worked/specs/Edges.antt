@@ -16,7 +16,7 @@ use Rattle.items.specs.Items.{insert, sorted, listedIn}
 use Rattle.state.specs.declared.State.{State}
 use Rattle.state.specs.declared.Profile.{Profile}
 use Rattle.state.specs.Parts.{putCands, pendingOf, epochsOf, epochLadders, cycleLadders, allLadders, laddersOf}
-use Rattle.events.specs.Events.{Mark, Deliver, Prompt}
+use Rattle.events.specs.Events.{Mark, Deliver, Prompt, noRungs}
 use Rattle.refusal.specs.Refusal.{anyOf, profileBad, epochsBadOf, numbersBad, laddersBad, spreadBad, first, givenTests, stateTests, pollTests, frameTests, linkTests}
 use Rattle.start.specs.Start.{floorsPassed, dampedNow, backedNow, triggeredNow, scheduledNow, kindOf, mayStart, startKind, calledFor}
 use Rattle.wake.specs.Due.{mayInstants, finInstants, elicitInstants, drainItems, candidateItems, cycleItems, currentItems, named, dueItems}
@@ -98,7 +98,7 @@ below-hard = (refl, refl)
 
 -- "A blind probe last prompted at 5000 draws no prompt at 5999 and one at 6000."
 abbrev pub PromptGap : Type 0
-PromptGap = (probed 5999 .out ≡ Mark 1 7 ∷ Deliver slotCurrent 1 0 0 ∷ []) × (probed 6000 .out ≡ Mark 1 7 ∷ Deliver slotCurrent 1 0 0 ∷ Prompt 1 ∷ [])
+PromptGap = (probed 5999 .out ≡ Mark 1 7 ∷ Deliver slotCurrent 1 0 0 ∷ []) × (probed 6000 .out ≡ Mark 1 7 ∷ Deliver slotCurrent 1 0 0 ∷ Prompt 1 noRungs ∷ [])
 
 prompt-gap : PromptGap
 unfolding range least laterOf failing firstAt settings·placeOf heldOf between among repeated pendingOf epochsOf epochLadders cycleLadders allLadders laddersOf anyOf profileBad epochsBadOf numbersBad laddersBad spreadBad first givenTests stateTests frameTests reaches deliverOut blindTo promptDue movesNow heardFirst movedFirst promptedNow heardEpoch hearing heardCurrent slotTag currentFrame slotFrame frameOf heardTests frameRefused givenOf frameAnswer noFinal noRepeats noDrain idle noCandidates firstEpoch alone freshState outcomeBy

@@ -1,3 +1,4 @@
 pub mod Worked
 pub mod Edges
 pub mod Notices
+pub mod Slept

@@ -15,7 +15,7 @@ use Rattle.numbers.specs.Numbers.{slotCurrent, cycleInit, startScheduled, start
 use Rattle.epoch.specs.Put.{putAssumed}
 use Rattle.state.specs.declared.State.{State}
 use Rattle.state.specs.declared.Profile.{Profile}
-use Rattle.events.specs.Events.{Event, Mark, Deliver, Delegate, Start, Reverted, Prompt, Reject, Unbind, Release, Retired, Abandoned}
+use Rattle.events.specs.Events.{Event, Mark, Deliver, Delegate, Start, Reverted, Prompt, Reject, Unbind, Release, Retired, Abandoned, noRungs}
 use Rattle.law_early.specs.Early.{Early}
 use Rattle.law_notice.specs.Tells.{rejects, worker-alone, notice-alone}
 use Rattle.law_runs.specs.Runs.{poll, named as called, back, gave, Entry, LeftOut, done, stays, out, logOf, second, endOf, AllQuiet, Rises, Late, accepted, quiet}
@@ -177,10 +177,10 @@ lines =
     ∷ offered 1300
     ∷ (record { kind = called datasent; at = 1400; said = back refusedDraw 0 })
     ∷ (record { kind = poll; at = 32200; said = gave (Start startSilence ∷ []) (some 0) })
-    ∷ (record { kind = called worker; at = 33000; said = gave (Unbind 3 4 ∷ Release 4 ∷ Abandoned abandonReverted ∷ Reverted 2 ∷ Prompt 2 ∷ Prompt 1 ∷ []) none })
+    ∷ (record { kind = called worker; at = 33000; said = gave (Unbind 3 4 ∷ Release 4 ∷ Abandoned abandonReverted ∷ Reverted 2 ∷ Prompt 2 noRungs ∷ Prompt 1 noRungs ∷ []) none })
     ∷ (record { kind = called worker; at = 33200; said = gave (Reject reasonNotDelegated ∷ []) none })
     ∷ (record { kind = called frame; at = 33300; said = gave (Mark 1 7 ∷ Deliver slotCurrent 1 0 0 ∷ []) none })
-    ∷ (record { kind = poll; at = 45000; said = gave (Prompt 1 ∷ Unbind 0 9 ∷ Release 9 ∷ Retired 2 ∷ Abandoned abandonRevertUnconfirmed ∷ Start startScheduled ∷ []) (some 2) })
+    ∷ (record { kind = poll; at = 45000; said = gave (Prompt 1 3 ∷ Unbind 0 9 ∷ Release 9 ∷ Retired 2 ∷ Abandoned abandonRevertUnconfirmed ∷ Start startScheduled ∷ []) (some 2) })
     ∷ []
 
 -- the three quiet polls left out
@@ -343,7 +343,7 @@ pub record NoticeEdges : Type 0 where
   -- the current epoch is heard, also one that is received here, and tells nothing
   pub heard : (worked assumedPair 2 0 .state .cur .ep .heard ≡ at 2000) × (worked assumedPair 2 0 .out ≡ [])
   -- an attempt in progress is abandoned by the revert: six events, so that the bound of law_notice is the least
-  pub six : (worked attempting 1 5 .number ≡ 0) × (worked attempting 1 5 .out ≡ Unbind 3 4 ∷ Release 4 ∷ Abandoned abandonReverted ∷ Reverted 2 ∷ Prompt 2 ∷ Prompt 1 ∷ [])
+  pub six : (worked attempting 1 5 .number ≡ 0) × (worked attempting 1 5 .out ≡ Unbind 3 4 ∷ Release 4 ∷ Abandoned abandonReverted ∷ Reverted 2 ∷ Prompt 2 noRungs ∷ Prompt 1 noRungs ∷ [])
   -- the epoch of tag 2 is pending: no cutover
   pub pending : Rejects pair (worked pair 2 7) reasonNotDelegated × Rejects pair (handing pair 2) reasonNotOffered × Rejects pair (handingBack pair 2) reasonNotDelegated
   -- nothing has tag 3

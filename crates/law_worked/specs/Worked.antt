@@ -15,7 +15,7 @@ use Rattle.epoch.specs.declared.Epoch.{Epoch}
 use Rattle.epoch.specs.declared.Index.{Index}
 use Rattle.state.specs.declared.State.{State}
 use Rattle.state.specs.declared.Profile.{Profile}
-use Rattle.events.specs.Events.{Event, Mark, Deliver, Delegate, Installed, Rekeyed, Retired, Prompt, Teardown, Start}
+use Rattle.events.specs.Events.{Event, Mark, Deliver, Delegate, Installed, Rekeyed, Retired, Prompt, Teardown, Start, noRungs}
 use Rattle.call_open.specs.Blank.{noEpoch, noAttempt, noPendI, noCandidates, noDrain, noIndex}
 use Rattle.law_early.specs.Early.{Early}
 use Rattle.law_runs.specs.Runs.{poll, named as called, back, gave, Entry, LeftOut, done, stays, out, logOf, second, endOf, AllQuiet, After, Rises, EarlyFor, Late, accepted, quiet}
@@ -201,7 +201,7 @@ early s b (c ∷ cs) = (b (link .atOf c), early s b cs)
 
 -- what the frame tells: a cutover by frame
 abbrev cutFrame : Entry Name Event
-cutFrame = record { kind = called frame; at = 2000; said = gave (Mark 2 7 ∷ Installed 2 true evidenceFrame ∷ Prompt 2 ∷ Rekeyed true ∷ Deliver slotCurrent 2 0 0 ∷ []) none }
+cutFrame = record { kind = called frame; at = 2000; said = gave (Mark 2 7 ∷ Installed 2 true evidenceFrame ∷ Prompt 2 noRungs ∷ Rekeyed true ∷ Deliver slotCurrent 2 0 0 ∷ []) none }
 
 abbrev refusedPoll : Entry Name Event
 refusedPoll = record { kind = poll; at = 2500; said = back refusedDraw 0 }

@@ -16,7 +16,7 @@ struct Pen {
 pub fn write(out: &mut [u8], o: Output, form: Form, v: &[u64; ROW]) -> Output {
     let forms = b"= #
 = sched @ dropped #
-= next_at ? due # any # send # latest # last # next #
+= next_at ? due # any # send # latest # last # next # taken #
 = place #
 = hold #
 = refused #

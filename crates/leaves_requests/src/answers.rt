@@ -132,6 +132,7 @@ fn put_took(v: &mut [u64; ROW], took: Took) {
     v[5] = took.latest;
     v[6] = took.last as u64;
     v[7] = took.ladder.next as u64;
+    v[8] = took.taken;
 }
 
 // `check CFG`

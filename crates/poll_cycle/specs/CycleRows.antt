@@ -48,7 +48,8 @@ unadoptedDue c tag =
     (record { cycle = c; out = [] })
 
 -- ---- Probe: a rung of a completed own attempt. A probe is sent with a prompt under the pending
--- epoch unless the grace would pass the deadline; every rung prompts under the current epoch
+-- epoch unless the grace would pass the deadline; every rung prompts under the current epoch. All that is
+-- told carries the number of the one take
 
 -- "late": the grace would pass the deadline, and the epoch did not come back from a revert
 unfoldable pub lateFor : PendI → ℕ → ℕ → Bool
@@ -57,8 +58,8 @@ lateFor p g now = and (not (p .reverted)) (ltb (p .deadline) (laterOf now g))
 unfoldable pub probing : Cycle → Took → ℕ → ℕ → ℕ → CycleStep
 probing c t g now current =
     pick (and (t .send) (not (lateFor (c .pendi) g now)))
-    (record { cycle = putPendI c (withProbes (c .pendi) (record { some = c .pendi .probes .some; ladder = t .ladder }) (at now) false); out = only (c .pendi .fin .some) (Send (c .pendi .fin .msg) kindMsg3) ++ (Prompt (c .pendi .ep .tag) ∷ Prompt current ∷ []) })
-    (record { cycle = putPendI c (withProbes (c .pendi) (record { some = c .pendi .probes .some; ladder = t .ladder }) (c .pendi .probed) (c .pendi .stayed)); out = Prompt current ∷ [] })
+    (record { cycle = putPendI c (withProbes (c .pendi) (record { some = c .pendi .probes .some; ladder = t .ladder }) (at now) false); out = only (c .pendi .fin .some) (Send (c .pendi .fin .msg) kindMsg3 (t .taken)) ++ (Prompt (c .pendi .ep .tag) (t .taken) ∷ Prompt current (t .taken) ∷ []) })
+    (record { cycle = putPendI c (withProbes (c .pendi) (record { some = c .pendi .probes .some; ladder = t .ladder }) (c .pendi .probed) (c .pendi .stayed)); out = Prompt current (t .taken) ∷ [] })
 
 unfoldable pub probeDue : Cycle → Bool → ℕ → ℕ → ℕ → ℕ → CycleStep
 probeDue c cur current g tag now =
@@ -71,11 +72,11 @@ probeDue c cur current g tag now =
 unfoldable pub delayedDue : Cycle → ℕ → ℕ → CycleStep
 delayedDue c tag now =
     pick (and (and (isOwn c tag) (c .pendi .fin .some)) (takeOf (c .pendi .fin .ladder) now .any))
-    (record { cycle = putPendI c (withFin (c .pendi) (movedFin (c .pendi .fin) (c .pendi .fin .some) (takeOf (c .pendi .fin .ladder) now .ladder))); out = Send (c .pendi .fin .msg) kindMsg3 ∷ [] })
+    (record { cycle = putPendI c (withFin (c .pendi) (movedFin (c .pendi .fin) (c .pendi .fin .some) (takeOf (c .pendi .fin .ladder) now .ladder))); out = Send (c .pendi .fin .msg) kindMsg3 (takeOf (c .pendi .fin .ladder) now .taken) ∷ [] })
     (record { cycle = c; out = [] })
 
 -- ---- Resend: the own attempt's first message is sent again. While opening, a larger node with a
--- candidate holds a young resend back; the rung is taken all the same
+-- candidate holds a young resend back; the rung is taken all the same, and its number is not told
 
 -- msg1 of two messages, else the setup
 abbrev pub firstKind : ℕ → ℕ
@@ -85,7 +86,7 @@ unfoldable pub resendTaken : Cycle → Took → Bool → ℕ → ℕ → CycleSt
 resendTaken c t holds young messages =
     pick (and holds (ltb (t .latest) young))
     (record { cycle = putInit c (movedInit (c .init) (t .ladder) (c .init .resent)); out = [] })
-    (record { cycle = putInit c (movedInit (c .init) (t .ladder) true); out = Send (c .init .out) (firstKind messages) ∷ [] })
+    (record { cycle = putInit c (movedInit (c .init) (t .ladder) true); out = Send (c .init .out) (firstKind messages) (t .taken) ∷ [] })
 
 unfoldable pub resendDue : Cycle → Bool → ℕ → ℕ → ℕ → CycleStep
 resendDue c holds young messages now =

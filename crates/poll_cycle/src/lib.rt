@@ -77,24 +77,25 @@ fn sends(p: PendI, send: bool, grace: u64, time: u64) -> bool
     }
 }
 
-// A probe's events, and the rung's prompt under the current epoch.
+// A probe's events, and the rung's prompt under the current epoch, each with the number of rungs taken.
 fn probe_out(
     some: bool,
     msg: u64,
     tag: u64,
     current: u64,
+    rungs: u64,
     log: &mut [u64; 768],
     len: usize,
 ) -> usize
-    ensures { λ r. ⌜ Appends (only some (Send msg 4) ++ (Prompt tag ∷ Prompt current ∷ [])) len (now (log .entry)) r (now (log .exit)) ⌝ }
+    ensures { λ r. ⌜ Appends (only some (Send msg 4 rungs) ++ (Prompt tag rungs ∷ Prompt current rungs ∷ [])) len (now (log .entry)) r (now (log .exit)) ⌝ }
 {
     if some {
-        let a = events::send(log, len, msg, numbers::message::MSG3);
-        let b = events::prompt(log, a, tag);
-        events::prompt(log, b, current)
+        let a = events::send(log, len, msg, numbers::message::MSG3, rungs);
+        let b = events::prompt(log, a, tag, rungs);
+        events::prompt(log, b, current, rungs)
     } else {
-        let b = events::prompt(log, len, tag);
-        events::prompt(log, b, current)
+        let a = events::prompt(log, len, tag, rungs);
+        events::prompt(log, a, current, rungs)
     }
 }
 
@@ -119,7 +120,7 @@ fn probe_taken(
     p.probes = probes;
     let mut c2 = c;
     if sends(p, t.send, grace, time) {
-        let n = probe_out(p.fin.some, p.fin.msg, p.ep.tag, current, log, len);
+        let n = probe_out(p.fin.some, p.fin.msg, p.ep.tag, current, t.taken, log, len);
         let w = When {
             some: true,
             at: time,
@@ -129,7 +130,7 @@ fn probe_taken(
         c2.pendi = p;
         Cycled { cycle: c2, len: n }
     } else {
-        let n = events::prompt(log, len, current);
+        let n = events::prompt(log, len, current, t.taken);
         c2.pendi = p;
         Cycled { cycle: c2, len: n }
     }
@@ -172,7 +173,7 @@ pub fn delayed_due(c: Cycle, tag: u64, time: u64, log: &mut [u64; 768], len: usi
         let ladder = c.pendi.fin.ladder;
         let t = ladder.take(time);
         if t.any {
-            let n = events::send(log, len, c.pendi.fin.msg, numbers::message::MSG3);
+            let n = events::send(log, len, c.pendi.fin.msg, numbers::message::MSG3, t.taken);
             let moved = t.ladder;
             let mut p = c.pendi;
             let fin = Final {
@@ -228,7 +229,7 @@ fn resend_taken(
         }
     } else {
         let k = first_kind(messages);
-        let n = events::send(log, len, a.out, k);
+        let n = events::send(log, len, a.out, k, t.taken);
         a.resent = true;
         c2.init = a;
         Cycled { cycle: c2, len: n }

@@ -49,7 +49,7 @@ drainDue d tag =
 
 unfoldable pub finTaken : MayEpoch → Took → CurStep
 finTaken cur t =
-    record { cur = putEp cur (putFin (cur .ep) (movedFin (cur .ep .fin) (not (t .last)) (t .ladder))); out = Send (cur .ep .fin .msg) kindMsg3 ∷ []; due = and (t .last) (not (cur .ep .heard .some)) }
+    record { cur = putEp cur (putFin (cur .ep) (movedFin (cur .ep .fin) (not (t .last)) (t .ladder))); out = Send (cur .ep .fin .msg) kindMsg3 (t .taken) ∷ []; due = and (t .last) (not (cur .ep .heard .some)) }
 
 unfoldable pub finDue : MayEpoch → ℕ → ℕ → CurStep
 finDue cur tag now =
@@ -61,7 +61,7 @@ finDue cur tag now =
 
 unfoldable pub elicitTaken : MayEpoch → Took → ℕ → ℕ → CurStep
 elicitTaken cur t tag now =
-    record { cur = putEp cur (putElicit (cur .ep) (record { some = not (t .last); ladder = t .ladder }) (at now)); out = Prompt tag ∷ []; due = false }
+    record { cur = putEp cur (putElicit (cur .ep) (record { some = not (t .last); ladder = t .ladder }) (at now)); out = Prompt tag (t .taken) ∷ []; due = false }
 
 unfoldable pub elicitDue : MayEpoch → ℕ → ℕ → CurStep
 elicitDue cur tag now =

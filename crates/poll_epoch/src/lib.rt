@@ -48,7 +48,7 @@ pub fn drain_due(d: Drain, tag: u64, log: &mut [u64; 768], len: usize) -> Draine
 fn fin_taken(cur: MayEpoch, t: Took, log: &mut [u64; 768], len: usize) -> Kept
     ensures { λ r. ⌜ DidCur (finTaken cur t) len (now (log .entry)) r (now (log .exit)) ⌝ }
 {
-    let n = events::send(log, len, cur.ep.fin.msg, numbers::message::MSG3);
+    let n = events::send(log, len, cur.ep.fin.msg, numbers::message::MSG3, t.taken);
     let due = time::and(t.last, !cur.ep.heard.some);
     let moved = t.ladder;
     let mut ep = cur.ep;
@@ -104,7 +104,7 @@ fn elicit_taken(
 ) -> Kept
     ensures { λ r. ⌜ DidCur (elicitTaken cur t tag time) len (now (log .entry)) r (now (log .exit)) ⌝ }
 {
-    let n = events::prompt(log, len, tag);
+    let n = events::prompt(log, len, tag, t.taken);
     let moved = t.ladder;
     let w = When {
         some: true,

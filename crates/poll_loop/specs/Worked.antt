@@ -20,7 +20,7 @@ use Rattle.epoch.specs.declared.Epoch.{Epoch}
 use Rattle.epoch.specs.declared.Index.{Index}
 use Rattle.state.specs.declared.State.{State}
 use Rattle.state.specs.declared.Given.{Given}
-use Rattle.events.specs.Events.{Installed, Prompt, Rekeyed, Send}
+use Rattle.events.specs.Events.{Installed, Prompt, Rekeyed, Send, noRungs}
 use Rattle.items.specs.Items.{before, insert, sorted, listedIn}
 use Rattle.wake.specs.Due.{ladderInstants, mayInstants, finInstants, elicitInstants, drainItems, candidateItems, pendingItems, cycleItems, currentItems, named, dueItems}
 use Rattle.poll_listing.specs.Listing.{fresh, passItems}
@@ -133,7 +133,7 @@ at3s = record { cfg = fmp; profile = record { messages = 3; «at_proof» = false
 
 pub record SecondPass : Type 0 where
   -- the cutover in the first pass, the final message in the second
-  pub tells : threePasses delayed at3s (pos 0) .work .out ≡ Installed 2 false evidenceDelay ∷ Prompt 2 ∷ Rekeyed false ∷ Send 5 kindMsg3 ∷ []
+  pub tells : threePasses delayed at3s (pos 0) .work .out ≡ Installed 2 false evidenceDelay ∷ Prompt 2 noRungs ∷ Rekeyed false ∷ Send 5 kindMsg3 1 ∷ []
   -- two items and then one
   pub lists : threePasses delayed at3s (pos 0) .count ≡ 3
   -- the state moves: the pending epoch is current, and its final message was its last

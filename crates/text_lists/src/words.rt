@@ -4,8 +4,8 @@
 // The events: name, fields and words.
 pub fn events(number: u64, to: &mut [u8]) {
     copy(
-        b"send msg # message m route 0 : a handshake message is to be sent again
-prompt tag t : a prompt is to be sealed under the epoch and sent
+        b"send msg # message m route 0 rungs # : a handshake message is to be sent again
+prompt tag t rungs # : a prompt is to be sealed under the epoch and sent
 deliver slot s tag t start # end # : the plaintext of a frame is in the target buffer
 bind transport # index # tag T purpose p : frames for an index are to be routed to this link
 unbind transport # index # : frames for an index are to be routed here no more

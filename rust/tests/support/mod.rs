@@ -458,8 +458,10 @@ impl Words {
 
     fn event(&mut self, e: Event) {
         let (name, numbers): (_, Vec<Option<u64>>) = match e {
-            Event::Send { msg, kind } => ("send", vec![Some(msg), Some(kind.number()), Some(0)]),
-            Event::Prompt { tag } => ("prompt", vec![Some(tag)]),
+            Event::Send { msg, kind, rungs } => {
+                ("send", vec![Some(msg), Some(kind.number()), Some(0), Some(rungs)])
+            }
+            Event::Prompt { tag, rungs } => ("prompt", vec![Some(tag), Some(rungs)]),
             Event::Deliver { slot, tag, start, end } => {
                 ("deliver", vec![Some(slot.number().into()), Some(tag), Some(start), Some(end)])
             }

@@ -1,13 +1,15 @@
 use borrow.Author.Needs.{needs}
 use native.Mathlib.Omega.{arith}
 use Prim.Native.Nat.{_-_, _<_}
-use mathlib.Core.Path.{_≡_, refl, sym, _∙_, ap}
+use mathlib.Core.Path.{_≡_, refl, sym, _∙_, ap, ap₂}
 use mathlib.Core.Bool.{true}
 use Rattle.time.specs.Lists.{fold}
 use Rattle.time.specs.Time.{reachedOf}
 use Rattle.ladder.specs.Schedule.{maxRungs}
-use Rattle.ladder.specs.Ladder.{untaken, taking, told, dueFrom, takeOf, instantOf}
+use lib.ListN.{length}
+use Rattle.ladder.specs.Ladder.{untaken, taking, told, dueFrom, dueRungs, takeOf, instantOf}
 use Rattle.ladder.specs.Laws.{due-all, due-below, due-step, due-done}
+use Rattle.ladder.specs.Taken.{cursor-after}
 use Rattle.ladder.proofs.Ladder.take.Statement.{statement}
 use Rattle.ladder.proofs.Ladder.take.Tie as tie
 
@@ -52,14 +54,16 @@ loop-again c =
 returns : tie.Need-returns Inv-loop μ-loop
 unfolding takeOf fold
 returns c =
-    let b = c .before .before .before .before .before in
+    let b = c .before .before .before .before .before .before in
     let a = b .before .args in
-    let d = ap (λ w. reachedOf w (a .now)) (sym (c .before .before .before .before .instant .ensures)) ∙ (sym (c .before .before .before .reached .ensures) ∙ c .before .before .if1 .left) in
-    ap (told (a .self))
-    (sym
-    (ap (fold taking (untaken (a .self))) (sym (due-all (a .self) (a .now)))
+    let d = ap (λ w. reachedOf w (a .now)) (sym (c .before .before .before .before .before .instant .ensures)) ∙ (sym (c .before .before .before .before .reached .ensures) ∙ c .before .before .before .if1 .left) in
+    let all : fold taking (untaken (a .self)) (dueRungs (a .self) (a .now)) ≡ b .loop .t =
+    ap (fold taking (untaken (a .self))) (sym (due-all (a .self) (a .now)))
     ∙ (b .loop .inv
-    ∙ ap (fold taking (b .loop .t)) (due-done (a .self) (b .loop .t .next) (a .now) d))))
+    ∙ ap (fold taking (b .loop .t)) (due-done (a .self) (b .loop .t .next) (a .now) d)) in
+    let n : b .loop .t .next - a .self .next ≡ length (dueRungs (a .self) (a .now)) =
+    omega (arith, ap (λ t. t .next) all, cursor-after (untaken (a .self)) (dueRungs (a .self) (a .now))) in
+    ap₂ (told (a .self)) (c .before .before .passed .ensures ∙ n) (sym all)
 
 pub take-spec : {M : Type 1} → statement M
-take-spec = tie.close (tie.spec Inv-loop μ-loop loop-holds instant-requires reached-requires step-requires loop-less loop-again returns)
+take-spec = tie.close (tie.spec Inv-loop μ-loop loop-holds instant-requires reached-requires step-requires loop-less loop-again (λ c κs. tt) returns)

@@ -1,5 +1,6 @@
 //! The private fields of schedules and ladders, made from and read as numbers.
 use super::{Ladder, MAX_RUNGS, Schedule};
+use crate::time::Instant;
 
 impl Schedule {
     /// A schedule of these offsets; what lies past the limit is dropped.
@@ -26,5 +27,23 @@ impl<I: Copy> Ladder<I> {
 
     pub(crate) fn parts(&self) -> (I, Schedule, u8) {
         (self.origin, self.sched, self.next)
+    }
+}
+
+impl<I: Instant> Ladder<I> {
+    /// How many rungs a take at `now` takes: how far the published `take` moves
+    /// the cursor of a copy.
+    pub(crate) fn rungs(&self, now: I) -> u8 {
+        let mut copy = *self;
+        copy.take(now);
+        let moved = copy.next - self.next;
+        assert_eq!(usize::from(moved), self.steps(now), "a take moves by the rungs that are due");
+        moved
+    }
+
+    /// The same number without `take`: with the cursor at each rung in turn,
+    /// from where it stands, how many are due before one is not.
+    fn steps(&self, now: I) -> usize {
+        (self.next..self.sched.len).take_while(|&next| Self { next, ..*self }.due(now)).count()
     }
 }

@@ -154,13 +154,16 @@ fn take(f: &mut Fields<'_>, s: &mut String) {
     s.push_str("= next_at");
     put_opt(s, ladder.next_at().map(|t| t.0));
     _ = write!(s, " due {}", u8::from(ladder.due(now)));
+    let rungs = ladder.rungs(now);
     let taken = ladder.take(now);
     let (any, send, latest) = taken.map_or((0, 0, 0), |t| (1, u8::from(t.send), t.latest));
     let cursor = ladder.parts().2;
     // `Taken` says whether none is left; without one taken, its rule is read
     // off the cursor.
     let last = taken.map_or(len <= usize::from(cursor), |t| t.last);
-    _ = writeln!(s, " any {any} send {send} latest {latest} last {} next {cursor}", u8::from(last));
+    assert_eq!(cursor - next, rungs, "the ladder moves as its copy did");
+    _ = write!(s, " any {any} send {send} latest {latest} last {} next {cursor}", u8::from(last));
+    _ = writeln!(s, " taken {rungs}");
 }
 
 fn params(p: &Params, s: &mut String) {

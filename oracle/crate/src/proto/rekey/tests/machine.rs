@@ -610,10 +610,26 @@ impl Shell {
     }
 }
 
+/// An event, which the Rust tells, and what it does not tell.
+#[derive(Debug)]
+pub(crate) struct Told {
+    pub(crate) event: Event,
+    /// Of a poll, the place among `Done::rows` of the item that told it.
+    pub(crate) item: Option<usize>,
+    /// The number of rungs taken by the take that it comes from; 0 where it
+    /// comes from no ladder.
+    pub(crate) rungs: u8,
+}
+
+/// Events that come from no ladder.
+fn no_ladder(events: impl IntoIterator<Item = Event>) -> Vec<Told> {
+    events.into_iter().map(|event| Told { event, item: None, rungs: 0 }).collect()
+}
+
 /// The answer to a call that has events.
 #[derive(Debug)]
 pub(crate) struct Done {
-    pub(crate) events: Vec<Event>,
+    pub(crate) events: Vec<Told>,
     /// Of a poll, the row of each item that its passes listed.
     pub(crate) rows: Vec<&'static str>,
     pub(crate) state: State,
@@ -663,20 +679,26 @@ pub(crate) fn poll<P: Numbers>(g: Given<'_>, spread: i32, extra: u16) -> Done {
     }
     // The poll tells first what the passes told, and adds nothing to what
     // they left.
-    assert!(all.starts_with(&listed.events), "the passes differ from the poll");
+    let rest = all.split_off(listed.events.len().min(all.len()));
+    let first = listed.events.iter().map(|t| &t.event);
+    assert!(all.iter().eq(first), "the passes differ from the poll");
     let state = show(&m);
     assert!(state == listed.state || crate::proto::rekey::faults::any());
+    // The rest is a start, a teardown or an offer.
+    let mut told = listed.events;
+    told.extend(no_ladder(rest));
     if let Some((tag, before)) = listed.ended {
-        all.insert(before, Event("ended", alloc::vec![Some(tag)]));
+        let event = Event("ended", alloc::vec![Some(tag)]);
+        told.insert(before, Told { event, item: None, rungs: 0 });
     }
-    Done { events: all, rows: listed.rows, state }
+    Done { events: told, rows: listed.rows, state }
 }
 
 /// What the passes of a poll did.
 struct Passes {
     rows: Vec<&'static str>,
     /// What they told, after `withdraw`.
-    events: Vec<Event>,
+    events: Vec<Told>,
     /// The tag whose `PendR::end` touched the record, and how many of the
     /// events stand before it.
     ended: Option<(u64, usize)>,
@@ -684,14 +706,16 @@ struct Passes {
 }
 
 /// The pass loop of `poll` once more, by the published `due` and
-/// `expire_pass`, one item at a time, to count the items and to see at which
-/// one the record grows.
+/// `expire_pass`, one item at a time, to count the items, to see at which one
+/// the record grows, and to count the rungs that each one takes.
 fn passes<P: Numbers>(g: Given<'_>, j: u16, draw: u16) -> Passes {
     let now = TestInstant(g.now);
     let mut m = machine::<P>(g.state, g.cfg, g.smaller);
     m.params.cfg.jitter = j;
     let mut shell = Shell::new(g.workers, draw);
     let mut out: Outputs<P> = Vec::new();
+    // For each output the place of its item and the rungs that this one took.
+    let mut from: Vec<(usize, u8)> = Vec::new();
     let mut ended = false;
     let mut done: Vec<Due> = Vec::new();
     let mut told: Option<(u64, usize)> = None;
@@ -706,29 +730,99 @@ fn passes<P: Numbers>(g: Given<'_>, j: u16, draw: u16) -> Passes {
         } else {
             due.sort();
         }
+        let first = done.len();
         done.extend(due.iter().map(|&(_, d)| d));
-        for item in due {
+        for (i, item) in due.into_iter().enumerate() {
             let tag = match &m.cycle {
                 Cycle::PendR(p) => Some(p.ep.tag.get()),
                 Cycle::Idle | Cycle::Init(_) | Cycle::PendI(_) => None,
             };
             let (held, before) = (m.record.len(), out.len());
-            ended |= m.expire_pass(now, alloc::vec![item], &mut shell.env(), &mut out);
+            let (ends, taken) = one_item(&mut m, now, item, &mut shell, &mut out);
+            ended |= ends;
+            from.resize(out.len(), (first + i, taken));
             if m.record.len() > held {
                 assert!(told.is_none(), "one pending ends at most");
                 told = Some((tag.expect("a responder pending ended"), before));
             }
         }
     }
-    let told = told.map(|(tag, before)| {
-        let mut rest = out.split_off(before);
-        m.withdraw(&mut out);
-        let before = out.len();
-        out.append(&mut rest);
-        (tag, before)
+    let kept = withdrawn(&m, out, from);
+    Passes {
+        rows: done.iter().map(row).collect(),
+        ended: told.map(|(tag, before)| (tag, kept[..before].iter().flatten().count())),
+        events: kept.into_iter().flatten().collect(),
+        state: show(&m),
+    }
+}
+
+/// One item, by the published `expire_pass`: whether it ends the machine, and
+/// how many rungs its row takes, 0 where the row takes from no ladder. The
+/// number is counted on a copy of the row's ladder, before the row runs.
+fn one_item<P: Numbers>(
+    m: &mut Machine<P>,
+    now: TestInstant,
+    item: (TestInstant, Due),
+    shell: &mut Shell,
+    out: &mut Outputs<P>,
+) -> (bool, u8) {
+    let had = ladder_of(m, item.1);
+    let rungs = had.map_or(0, |l| l.rungs(now));
+    let before = out.len();
+    let ends = m.expire_pass(now, alloc::vec![item], &mut shell.env(), out);
+    // A row that told has taken: its ladder now stands where the copy does, or
+    // is gone because its last rung was taken.
+    if out.len() > before
+        && let Some((_, sched, cursor)) = had.map(|l| l.parts())
+    {
+        let end = sched.len() as u8;
+        let left = ladder_of(m, item.1).map_or(end, |l| l.parts().2);
+        assert_eq!(left, cursor + rungs, "the row takes as the copy did");
+    }
+    (ends, rungs)
+}
+
+/// The ladder that the row of an item takes from; none where the row takes from
+/// none, or where what the item names is gone.
+fn ladder_of<P: Numbers>(m: &Machine<P>, item: Due) -> Option<Ladder<TestInstant>> {
+    let current = |tag| m.cur.as_ref().filter(|c| c.tag == tag);
+    let pending = |tag| match &m.cycle {
+        Cycle::PendI(p) if p.ep.tag == tag => Some(p),
+        Cycle::Idle | Cycle::Init(_) | Cycle::PendI(_) | Cycle::PendR(_) => None,
+    };
+    match item {
+        Due::Probe(tag) => pending(tag)?.probes,
+        Due::Delayed(tag) => Some(pending(tag)?.fin.as_ref()?.ladder),
+        Due::Fin(tag) => Some(current(tag)?.fin.as_ref()?.ladder),
+        Due::Elicit(tag) => current(tag)?.elicit,
+        Due::Resend => match &m.cycle {
+            Cycle::Init(a) => Some(a.ladder),
+            Cycle::Idle | Cycle::PendI(_) | Cycle::PendR(_) => None,
+        },
+        Due::Drain(_)
+        | Due::Candidate(_)
+        | Due::Unadopted(_)
+        | Due::Held(_)
+        | Due::Confirm(_)
+        | Due::DelayEnd(_)
+        | Due::Expire => None,
+    }
+}
+
+/// What the published `withdraw` leaves of each output, with the output's item
+/// and number; none where it drops it. It judges each output by itself, so it is
+/// asked for one at a time.
+fn withdrawn<P: Numbers>(
+    m: &Machine<P>,
+    out: Outputs<P>,
+    from: Vec<(usize, u8)>,
+) -> Vec<Option<Told>> {
+    let each = out.into_iter().zip(from).map(|(o, (item, rungs))| {
+        let mut one = alloc::vec![o];
+        m.withdraw(&mut one);
+        one.first().map(|o| Told { event: event(o), item: Some(item), rungs })
     });
-    m.withdraw(&mut out);
-    Passes { rows: done.iter().map(row).collect(), events: events(&out), ended: told, state: show(&m) }
+    each.collect()
 }
 
 /// A frame's proof and where its plaintext goes.
@@ -786,7 +880,7 @@ pub(crate) fn frame<P: Numbers>(
         all.push(Event("ended", alloc::vec![ending]));
     }
     all.extend(events(&out));
-    Done { events: all, rows: Vec::new(), state: show(&m) }
+    Done { events: no_ladder(all), rows: Vec::new(), state: show(&m) }
 }
 
 /// A notice, by the published `step`. No notice draws, marks or ends a
@@ -797,7 +891,7 @@ fn notice<P: Numbers>(g: Given<'_>, input: Input<'_, P>) -> Done {
     let out = m.step(TestInstant(g.now), input, &mut shell.env());
     assert!(shell.jitter.asked == 0, "a notice draws nothing");
     assert!(MARKS.take().is_empty() && m.record.len() == 0, "a notice tells by `step` alone");
-    Done { events: events(&out), rows: Vec::new(), state: show(&m) }
+    Done { events: no_ladder(events(&out)), rows: Vec::new(), state: show(&m) }
 }
 
 /// A worker authenticated a frame under the tag.
@@ -857,7 +951,7 @@ pub(crate) fn open<P: Numbers>(
     let mut out = Outputs::new();
     m.install(now, ep, &mut Shell::new(workers, draw).env(), &mut out);
     m.withdraw(&mut out);
-    Done { events: events(&out), rows: Vec::new(), state: show(&m) }
+    Done { events: no_ladder(events(&out)), rows: Vec::new(), state: show(&m) }
 }
 
 /// Whether a start is called for at the instant: `start_kind` yields, and the

@@ -1,6 +1,6 @@
 //! The program `machine`: the whole machine in the replay format.
 use super::super::ladder::MAX_RUNGS;
-use super::super::machine::oracle::{self as run, Done, Given, Numbers, Prof, Proof};
+use super::super::machine::oracle::{self as run, Done, Given, Numbers, Prof, Proof, Told};
 use super::super::params::Params;
 use super::lines::{Fields, arguments, filter, finish, number, put, put_opt};
 use super::random;
@@ -338,15 +338,53 @@ pub(crate) fn refusal(
 
 // ---- answers ----
 
-/// Append the lines of an accepted or sent-back call, with `rows` a line
-/// `# NAME` for each item of a poll too; the state it leaves, where it can
-/// leave one.
+/// How answers are written.
+#[derive(Clone, Copy, PartialEq, Eq)]
+enum Form {
+    /// As the Rust tells them.
+    Bare,
+    /// A send or prompt ends with the number of rungs taken.
+    Whole,
+    /// The same, and the row of each item of a poll.
+    Rows,
+}
+
+/// Whether an event ends with the number of rungs taken.
+fn numbered(t: &Told) -> bool {
+    matches!(t.event.0, "send" | "prompt")
+}
+
+fn put_events(told: &[Told], form: Form, text: &mut String) {
+    for t in told {
+        _ = write!(text, "= e {}", t.event.0);
+        t.event.1.iter().for_each(|n| put_opt(text, *n));
+        if form != Form::Bare && numbered(t) {
+            _ = write!(text, " {}", t.rungs);
+        }
+        text.push('\n');
+    }
+}
+
+/// For each item of a poll a line `# ROW`, with `send=N` and `prompt=N` for what
+/// it told.
+fn put_rows(done: &Done, text: &mut String) {
+    for (i, row) in done.rows.iter().enumerate() {
+        _ = write!(text, "# {row}");
+        for t in done.events.iter().filter(|t| t.item == Some(i) && numbered(t)) {
+            _ = write!(text, " {}={}", t.event.0, t.rungs);
+        }
+        text.push('\n');
+    }
+}
+
+/// Append the lines of an accepted or sent-back call; the state it leaves,
+/// where it can leave one.
 fn answer(
     cfg: &Cfg,
     profile: &Flags,
     s: Option<&State>,
     call: &Call,
-    rows: bool,
+    form: Form,
     text: &mut String,
 ) -> Option<State> {
     if let Some((number, place)) = refusal(cfg, profile, s, call) {
@@ -354,13 +392,7 @@ fn answer(
         return None;
     }
     let given = |state, now, workers| Given { state, cfg, smaller: profile.smaller, now, workers };
-    let events = |done: &Done, text: &mut String| {
-        for e in &done.events {
-            _ = write!(text, "= e {}", e.0);
-            e.1.iter().for_each(|n| put_opt(text, *n));
-            text.push('\n');
-        }
-    };
+    let events = |done: &Done, text: &mut String| put_events(&done.events, form, text);
     match call {
         &Call::Open { now, role, transport, lease, workers, spread } => {
             let (smaller, spread) = (profile.smaller, spread as i32);
@@ -377,8 +409,8 @@ fn answer(
             let done = by_profile!(profile, false, poll(g, spread as i32, extra as u16));
             events(&done, text);
             _ = writeln!(text, "= count {}", done.rows.len());
-            for row in done.rows.iter().filter(|_| rows) {
-                _ = writeln!(text, "# {row}");
+            if form == Form::Rows {
+                put_rows(&done, text);
             }
             Some(done.state)
         }
@@ -437,7 +469,7 @@ fn answer(
 
 /// The state that an accepted call leaves, of those that can leave one.
 pub(crate) fn leaves_behind(cfg: &Cfg, profile: &Flags, s: &State, call: &Call) -> Option<State> {
-    answer(cfg, profile, Some(s), call, false, &mut String::new())
+    answer(cfg, profile, Some(s), call, Form::Bare, &mut String::new())
 }
 
 /// The wake of an accepted state.
@@ -473,7 +505,7 @@ fn put_state(s: &State, text: &mut String) {
     text.push('\n');
 }
 
-fn answers(rows: bool) {
+fn answers(form: Form) {
     let mut block = Block::default();
     filter(|line, text| {
         let Some(line) = line else {
@@ -510,7 +542,7 @@ fn answers(rows: bool) {
                 if block.state.is_none() && !opens {
                     f.bad("a state is missing before");
                 }
-                let left = answer(cfg, profile, block.state.as_ref(), &call, rows, text);
+                let left = answer(cfg, profile, block.state.as_ref(), &call, form, text);
                 if let Some(left) = left {
                     if block.run {
                         block.state = Some(left);
@@ -526,8 +558,9 @@ fn answers(rows: bool) {
 pub(crate) fn main() {
     let args = arguments();
     match args.first().map_or("", String::as_str) {
-        "answer" => answers(false),
-        "rows" => answers(true),
+        "answer" => answers(Form::Whole),
+        "bare" => answers(Form::Bare),
+        "rows" => answers(Form::Rows),
         "random" => {
             let kind = args.get(1).map_or("", String::as_str);
             let (seed, count): (u64, u64) = (number(&args, 2), number(&args, 3));
@@ -547,7 +580,7 @@ pub(crate) fn main() {
 
 fn usage() -> ! {
     eprintln!(
-        "machine [--fault NAME] answer | rows | \
+        "machine [--fault NAME] answer | bare | rows | \
          random single|runs|refusals|opens|notices|noticed|noticerefusals SEED COUNT | --faults"
     );
     std::process::exit(2);
