@@ -42,7 +42,7 @@
  * Stack. What one call takes, in bytes, its arguments and its answer included: the most of many states,
  * measured with a painted stack on an AMD EPYC, the caller built by gcc 12.2 -O2 (tools/stack measures
  * again).
- *   poll 95456     frame 70352    reply 45632    sent 23200     status 11648
+ *   poll 95440     frame 70352    reply 45632    sent 23200     status 11648
  *   wake 11552     open 11056     quiet 928      settings 208
  *   worker 65072   delegated and undelegated 33792   path 23056     data_sent 22864 */
 #ifndef SIKLYAVON_LINK_H

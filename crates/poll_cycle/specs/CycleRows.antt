@@ -67,7 +67,7 @@ probeDue c cur current g tag now =
     (probing c (takeOf (c .pendi .probes .ladder) now) g now current)
     (record { cycle = c; out = [] })
 
--- ---- Delayed: the retained final message of a delayed cutover is sent again
+-- ---- Delayed: the retained final message of a delayed cutover is sent again, with the number of rungs taken
 
 unfoldable pub delayedDue : Cycle → ℕ → ℕ → CycleStep
 delayedDue c tag now =
@@ -75,8 +75,9 @@ delayedDue c tag now =
     (record { cycle = putPendI c (withFin (c .pendi) (movedFin (c .pendi .fin) (c .pendi .fin .some) (takeOf (c .pendi .fin .ladder) now .ladder))); out = Send (c .pendi .fin .msg) kindMsg3 (takeOf (c .pendi .fin .ladder) now .taken) ∷ [] })
     (record { cycle = c; out = [] })
 
--- ---- Resend: the own attempt's first message is sent again. While opening, a larger node with a
--- candidate holds a young resend back; the rung is taken all the same, and its number is not told
+-- ---- Resend: the own attempt's first message is sent again, with the number of rungs taken. While
+-- opening, a larger node with a candidate holds a young resend back; the rungs are taken all the same, and
+-- their number is not told
 
 -- msg1 of two messages, else the setup
 abbrev pub firstKind : ℕ → ℕ

@@ -44,8 +44,8 @@ drainDue d tag =
     (record { drain = record { some = false; ep = d .ep; deadline = d .deadline; evidenced = d .evidenced }; out = retireOut (d .ep) ++ only (not (d .evidenced)) (Abandoned abandonAdoptionNotSeen) })
     (record { drain = d; out = [] })
 
--- ---- Fin: the current epoch's final message is sent again; its last rung drops it, and a repair
--- falls due if nothing was heard
+-- ---- Fin: the current epoch's final message is sent again, with the number of rungs taken; its last
+-- rung drops it, and a repair falls due if nothing was heard
 
 unfoldable pub finTaken : MayEpoch → Took → CurStep
 finTaken cur t =
@@ -57,7 +57,7 @@ finDue cur tag now =
     (finTaken cur (takeOf (cur .ep .fin .ladder) now))
     (record { cur = cur; out = []; due = false })
 
--- ---- Elicit: a prompt is repeated until the peer is seen to move
+-- ---- Elicit: a prompt is repeated until the peer is seen to move, with the number of rungs taken
 
 unfoldable pub elicitTaken : MayEpoch → Took → ℕ → ℕ → CurStep
 elicitTaken cur t tag now =
