@@ -1001,9 +1001,23 @@ pub(crate) fn wake<P: Numbers>(g: Given<'_>) -> Option<u64> {
     show_at(machine::<P>(g.state, g.cfg, g.smaller).next_wake())
 }
 
-/// Current tag, cycle kind, wake and quiet time.
-pub(crate) fn status<P: Numbers>(g: Given<'_>) -> [Option<u64>; 4] {
+/// What a status line tells.
+#[derive(Debug)]
+pub(crate) struct Status {
+    pub(crate) tag: Option<u64>,
+    pub(crate) kind: u64,
+    pub(crate) wake: Option<u64>,
+    pub(crate) quiet: Option<u64>,
+    /// The time since `last_rx`, which is the quiet time before request 4.
+    pub(crate) since_last: Option<u64>,
+}
+
+/// A status line, by the published `view` and `next_wake`. `view` has `last_rx`,
+/// which is of any epoch, and not `rx_cur`, so `quiet` computes the quiet time; it
+/// must be that of the block's numbers.
+pub(crate) fn status<P: Numbers>(g: Given<'_>) -> Status {
     let m = machine::<P>(g.state, g.cfg, g.smaller);
+    let now = TestInstant(g.now);
     let view = m.view();
     let kind = match view.cycle {
         CycleView::Idle => 0,
@@ -1011,10 +1025,41 @@ pub(crate) fn status<P: Numbers>(g: Given<'_>) -> [Option<u64>; 4] {
         CycleView::PendI(_) => 2,
         CycleView::PendR => 3,
     };
-    [
-        view.current.map(|c| c.tag.get()),
-        Some(kind),
-        show_at(m.next_wake()),
-        view.last_rx.map(|t| millis(since(TestInstant(g.now), t))),
-    ]
+    let quiet = quiet(&m, now).map(millis);
+    assert!(is_quiet(g.state, g.now, quiet), "the numbers have another quiet time");
+    Status {
+        tag: view.current.map(|c| c.tag.get()),
+        kind,
+        wake: show_at(m.next_wake()),
+        quiet,
+        since_last: view.last_rx.map(|t| millis(since(now, t))),
+    }
+}
+
+/// The quiet time: the shorter of the time since the current epoch started and the
+/// time since `rx_cur`. A cutover leaves `rx_cur`, so it may lie before the start.
+/// The published silence trigger counts from the same instant, by `latest`.
+fn quiet<P: Numbers>(m: &Machine<P>, now: TestInstant) -> Option<Duration> {
+    let started = m.cur.as_ref()?.started;
+    let marks = [Some(started), m.mem.rx_cur].into_iter().flatten();
+    let shorter = marks.map(|t| since(now, t)).min();
+    let published = since(now, latest(m.mem.rx_cur, started));
+    assert_eq!(shorter, Some(published), "`latest` has another quiet time");
+    shorter
+}
+
+/// Whether `quiet` is the quiet time of these numbers, by what it can be: absent
+/// without a current epoch alone; 0 where the clock is not past the start or not
+/// past `rx_cur`; above 0 where it counts from one of the two and neither is later.
+fn is_quiet(s: &State, now: u64, quiet: Option<u64>) -> bool {
+    let heard = s.mem.rx_cur;
+    match (&s.cur, quiet) {
+        (None, _) => quiet.is_none(),
+        (Some(_), None) => false,
+        (Some(cur), Some(0)) => now <= cur.started || heard.is_some_and(|t| now <= t),
+        (Some(cur), Some(time)) => now.checked_sub(time).is_some_and(|from| {
+            let counts = from == cur.started || heard == Some(from);
+            counts && cur.started <= from && heard.is_none_or(|t| t <= from)
+        }),
+    }
 }

@@ -341,9 +341,10 @@ pub(crate) fn refusal(
 /// How answers are written.
 #[derive(Clone, Copy, PartialEq, Eq)]
 enum Form {
-    /// As the Rust tells them.
+    /// As the Rust tells them: a status line ends with the time since `last_rx`.
     Bare,
-    /// A send or prompt ends with the number of rungs taken.
+    /// A send or prompt ends with the number of rungs taken, a status line with the
+    /// quiet time.
     Whole,
     /// The same, and the row of each item of a poll.
     Rows,
@@ -452,8 +453,10 @@ fn answer(
             None
         }
         Call::Status { now } => {
+            let told = by_profile!(profile, false, status(given(s?, *now, false)));
+            let quiet = if form == Form::Bare { told.since_last } else { told.quiet };
             text.push_str("= status");
-            for n in by_profile!(profile, false, status(given(s?, *now, false))) {
+            for n in [told.tag, Some(told.kind), told.wake, quiet] {
                 put_opt(text, n);
             }
             text.push('\n');
@@ -581,7 +584,8 @@ pub(crate) fn main() {
 fn usage() -> ! {
     eprintln!(
         "machine [--fault NAME] answer | bare | rows | \
-         random single|runs|refusals|opens|notices|noticed|noticerefusals SEED COUNT | --faults"
+         random single|runs|refusals|opens|notices|noticed|noticerefusals|statuses SEED COUNT | \
+         --faults"
     );
     std::process::exit(2);
 }

@@ -32,6 +32,11 @@ fn millis(d: crate::time::Duration) -> u64 {
     super::super::ladder::millis(d)
 }
 
+/// The least tag above 0 that no epoch has.
+fn free_tag(s: &State) -> u64 {
+    (1..).find(|t| s.epochs().all(|e| e.tag != *t)).expect("some tag is free")
+}
+
 impl Gen {
     fn new(seed: u64, block: u64) -> Self {
         let mut g = SplitMix64::new(SplitMix64::mix(seed, &[block]));
@@ -281,6 +286,10 @@ impl Gen {
         }
     }
 
+    fn drained(&mut self, tag: u64) -> Drain {
+        Drain { ep: self.epoch(tag), deadline: self.instant(), evidenced: self.chance(500) }
+    }
+
     fn candidates(&mut self, started: Option<u64>) -> (u64, Vec<Cand>) {
         let count = match self.g.below(10) {
             0..=3 => 0,
@@ -351,13 +360,7 @@ impl Gen {
         }
         let mem = self.memory();
         let cur = self.opt(880, |s| s.epoch(tags[0]));
-        let drain = cur.as_ref().and_then(|_| {
-            self.opt(550, |s| Drain {
-                ep: s.epoch(tags[1]),
-                deadline: s.instant(),
-                evidenced: s.chance(500),
-            })
-        });
+        let drain = cur.as_ref().and_then(|_| self.opt(550, |s| s.drained(tags[1])));
         let grace = self.grace(&mem);
         let cycle =
             match self.g.below(10) {
@@ -471,8 +474,7 @@ impl Gen {
 
     /// Close to a revert: an assumed current epoch, not heard, over a drain.
     fn toward_revert(&mut self, s: &mut State) {
-        let held: Vec<u64> = s.epochs().map(|e| e.tag).collect();
-        let free = (1..).find(|t| !held.contains(t)).expect("some tag is free");
+        let free = free_tag(s);
         let Some(cur) = s.cur.as_mut() else {
             return;
         };
@@ -481,11 +483,7 @@ impl Gen {
             cur.heard = None;
         }
         if s.drain.is_none() {
-            s.drain = Some(Drain {
-                ep: self.epoch(free),
-                deadline: self.instant(),
-                evidenced: self.chance(500),
-            });
+            s.drain = Some(self.drained(free));
         }
         let grace = self.grace(&s.mem);
         if let Cycle::PendI(p) = &mut s.cycle {
@@ -757,6 +755,78 @@ impl Gen {
     /// A kind of notice: a worker's as often as two others.
     fn some_kind(&mut self) -> u64 {
         pick(&mut self.g, &[0, 0, 1, 2, 3, 4])
+    }
+
+    // ---- quiet time ----
+
+    /// A span of 2 or more.
+    fn gap(&mut self) -> u64 {
+        let span = match self.g.below(4) {
+            0 => self.g.below(10),
+            1 => self.g.below(200_000),
+            2 => pick(&mut self.g, &self.spans),
+            _ => edge(&mut self.g),
+        };
+        span.max(2)
+    }
+
+    /// An instant before `t`, one before it, at it, one after it or after it.
+    fn about(&mut self, t: u64) -> u64 {
+        let gap = self.gap();
+        match self.g.below(5) {
+            0 => back(t, gap),
+            1 => back(t, 1),
+            2 => t,
+            3 => t.saturating_add(1),
+            _ => t.saturating_add(gap),
+        }
+    }
+
+    /// A state with `rx_cur` about the current start, or about now where no epoch is
+    /// current, and `last_rx` about `rx_cur`.
+    fn state_for_quiet(&mut self) -> State {
+        let mut s = self.state();
+        let started = s.cur.as_ref().map_or(self.now, |c| c.started);
+        s.mem.rx_cur = self.opt(800, |g| g.about(started));
+        let heard = s.mem.rx_cur.unwrap_or(started);
+        s.mem.last_rx = self.opt(800, |g| g.about(heard));
+        if self.chance(250) {
+            self.toward_drain_alone(&mut s);
+        }
+        s
+    }
+
+    /// A link that is heard only on its drain.
+    fn toward_drain_alone(&mut self, s: &mut State) {
+        let Some(cur) = &s.cur else {
+            return;
+        };
+        let latest = s.mem.rx_cur.map_or(cur.started, |t| t.max(cur.started));
+        s.mem.last_rx = Some(latest.saturating_add(self.gap()));
+        if s.drain.is_none() {
+            s.drain = Some(self.drained(free_tag(s)));
+        }
+    }
+
+    /// The edges of a state's quiet time, each once: both ends of the range, and
+    /// before, between, after, at and next to the current start and `rx_cur`; then,
+    /// up to ten, any instants.
+    fn quiet_edges(&mut self, s: &State) -> Vec<u64> {
+        let started = s.cur.as_ref().map_or(self.now, |c| c.started);
+        let heard = s.mem.rx_cur.unwrap_or(started);
+        let (first, second) = (started.min(heard), started.max(heard));
+        let gap = self.gap();
+        let mut all = vec![0, back(first, gap), back(first, 1), first, first.saturating_add(1)];
+        all.push(first + (second - first) / 2);
+        all.extend([back(second, 1), second, second.saturating_add(1)]);
+        all.extend([second.saturating_add(gap), u64::MAX]);
+        all.extend(s.mem.last_rx);
+        all.sort_unstable();
+        all.dedup();
+        while all.len() < 10 {
+            all.push(self.instant());
+        }
+        all
     }
 
     // ---- breaking ----
@@ -1035,15 +1105,34 @@ impl Gen {
     /// A state, with settings, profile or state broken.
     fn broken(&mut self) -> State {
         let mut s = self.state();
+        self.break_some(&mut s);
+        s
+    }
+
+    /// Breaks settings, profile or state, or at times nothing.
+    fn break_some(&mut self, s: &mut State) {
         for _ in 0..1 + self.g.below(3) {
             match self.g.below(10) {
                 0 => settings::move_to_edge(&mut self.g, &mut self.cfg),
                 1 => self.break_profile(),
-                2..=6 => self.break_state(&mut s),
+                2..=6 => self.break_state(s),
                 _ => {}
             }
         }
-        s
+    }
+
+    /// Status calls at the edges of the quiet time; few blocks are as `refused`
+    /// breaks them.
+    fn statuses(&mut self, block: u64, text: &mut String) {
+        let mut s = self.state_for_quiet();
+        if self.chance(50) {
+            self.break_some(&mut s);
+        }
+        self.head("vector", block, Some(&s), text);
+        for now in self.quiet_edges(&s) {
+            Call::Status { now }.write(text);
+            text.push('\n');
+        }
     }
 
     fn refused(&mut self, block: u64, text: &mut String) {
@@ -1106,6 +1195,7 @@ pub(super) fn block(kind: &str, seed: u64, block: u64, text: &mut String) -> boo
         "notices" => g.notices(block, text),
         "noticed" => g.noticed(block, text),
         "noticerefusals" => g.notices_refused(block, text),
+        "statuses" => g.statuses(block, text),
         _ => return false,
     }
     true
