@@ -58,7 +58,7 @@ extern "C" {
 
 /* The version of what this file declares. It rises when a record, a number or a call changes. The calls
  * siklyavon_sample_... hold a caller's records to the library: tools/header compares every field. */
-#define SIKLYAVON_LAYOUT 3
+#define SIKLYAVON_LAYOUT 4
 
 /* ---- Sizes */
 
@@ -385,7 +385,7 @@ typedef struct siklyavon_memory {
     siklyavon_when backoff;      /* the abandon backoff ends: no start but a repair before it, below soft */
     uint8_t abandons;            /* own attempts abandoned since the last cutover */
     siklyavon_when last_rx;      /* the last frame under any epoch */
-    siklyavon_when rx_cur;       /* the last frame under the current epoch */
+    siklyavon_when rx_cur;       /* the last frame under an epoch that was current then */
     bool sent_data;              /* data was sealed (siklyavon_data_sent) since the last frame under the current epoch */
     uint8_t silence;             /* starts by silence since then: each doubles the interval */
     uint64_t link_since;         /* when the link began; a restart of the peer sets it anew */
@@ -492,10 +492,10 @@ typedef struct siklyavon_woke {
 typedef struct siklyavon_shown {
     uint8_t number;       /* a SIKLYAVON_REFUSED_, or SIKLYAVON_ACCEPTED */
     uint8_t place;        /* a SIKLYAVON_PLACE_ in refusal 1, else 0 */
-    siklyavon_when tag;   /* the current epoch's tag */
+    siklyavon_when tag;   /* the current epoch's tag; none without one */
     uint8_t kind;         /* what is in progress: a SIKLYAVON_CYCLE_ */
     siklyavon_when wake;  /* as siklyavon_wake tells it */
-    siklyavon_when quiet; /* the time since the last frame under any epoch */
+    siklyavon_when quiet; /* the time since the current epoch was heard or started, see siklyavon_status */
 } siklyavon_shown;
 
 /* ---- What happens outside, and what to write for it
@@ -783,7 +783,18 @@ siklyavon_answer siklyavon_sent(siklyavon_state s, uint64_t time, uint64_t count
  * examples/tablet.c is this loop as a program. */
 siklyavon_woke siklyavon_wake(siklyavon_state s, siklyavon_config cfg, siklyavon_profile p);
 
-/* The link line. Refusals 1 to 6. */
+/* The link line. Refusals 1 to 6.
+ *
+ * Quiet is the time since the current epoch was heard or started, whichever is later: time less the later
+ * of mem.rx_cur and cur.ep.started, 0 if the clock is behind, none exactly without a current epoch.
+ *   - At the instant of an accepted siklyavon_frame under the current or the pending epoch, or of a
+ *     siklyavon_worker under the current one, it is 0.
+ *   - A frame or a worker's report under the drained epoch leaves it, but where REVERTED is told. Then it
+ *     counts from mem.rx_cur, which that frame does not move, or from the start of the epoch that is
+ *     current again.
+ *   - A poll leaves it, or makes an epoch current that starts at its instant. Every other call leaves it.
+ * So a small number says that the hub was heard under the keys in use, or that these keys are that new.
+ * mem.last_rx is the last frame under any epoch. */
 siklyavon_shown siklyavon_status(siklyavon_state s, siklyavon_config cfg, siklyavon_profile p,
                                  uint64_t time);
 

@@ -150,7 +150,7 @@ unsafe fn answers() {
     let start = 1000 + cfg.after;
     assert_eq!((w.number, w.place, w.at), (0, 0, When { some: true, at: start }));
     let l = siklyavon_status(o.state, cfg, p, 2000);
-    assert_eq!((l.number, l.place, l.tag.at, l.kind, l.wake.at, l.quiet.some), (0, 0, 1, 0, start, false));
+    assert_eq!((l.number, l.place, l.tag.at, l.kind, l.wake.at, l.quiet), (0, 0, 1, 0, start, When { some: true, at: 1000 }));
     let mut s = o.state;
     s.cands.len = 2;
     s.cands.seq[1] = 1;

@@ -351,7 +351,7 @@ static void answers(void) {
     siklyavon_shown l = siklyavon_status(s, bad, p, 2000);
     IS(l.number, SIKLYAVON_REFUSED_SETTINGS);
     IS(l.place, SIKLYAVON_PLACE_ZERO_TTL);
-    s.mem.last_rx = (siklyavon_when){true, 1500};
+    s.mem.rx_cur = (siklyavon_when){true, 1500};
     s.cycle.kind = SIKLYAVON_CYCLE_PENDR;
     s.cycle.pendr.ep.tag = 2;
     s.cycle.pendr.deadline = 90000;

@@ -377,7 +377,45 @@ pub struct Status {
     pub kind: CycleKind,
     /// As [`wake`] tells it.
     pub wake: Option<u64>,
-    /// The time since the last authenticated frame.
+    /// The time since the current epoch was heard or started, whichever is later: now less the later
+    /// of `mem.rx_cur` and `cur.ep.started`, 0 if the clock is behind. None exactly without a current
+    /// epoch.
+    ///
+    /// A [`frame`] under the current or the pending epoch, and a [`worker`]'s report under the current
+    /// one, make it 0 at their instant. Under the drained epoch they leave it, but where
+    /// [`Event::Reverted`] is told: then it counts from `mem.rx_cur`, which they do not move, or from
+    /// the start of the epoch that is current again. A [`poll`] leaves it, or makes an epoch current
+    /// that starts at its instant; every other call leaves it. So a small number says that the peer
+    /// was heard under the keys in use, or that these keys are that new; `mem.last_rx` has the last
+    /// frame under any epoch.
+    /// ```
+    /// use siklyavon_link::*;
+    /// # fn main() -> Result<(), Refusal> {
+    /// # let (cfg, mut log) = (Config::fmp(), Log::new());
+    /// # let profile = Profile { messages: 2, at_proof: false, silence: false, smaller: false, floor: 0 };
+    /// # let opening = Opening { role: Role::Responder, transport: 7, lease: None, workers: false };
+    /// # let mut state = open(&cfg, &profile, opening, 0, 1000, &mut log)?;
+    /// // Epoch 2 became current at 2 s; epoch 1 is drained until 12 s.
+    /// state.drain = Drain { some: true, ep: state.cur.ep, deadline: 12_000, evidenced: true };
+    /// state.cur.ep.tag = 2;
+    /// state.cur.ep.started = 2000;
+    /// state.cur.ep.heard = Some(2000).into();
+    /// state.mem.rx_cur = Some(2000).into();
+    ///
+    /// // At 8 s a frame comes under epoch 1. Two seconds later the line says eight seconds.
+    /// let at = Given { cfg: &cfg, profile: &profile, now: 8000, workers: false };
+    /// let proof = FrameProof { tag: 1, slot: Slot::Previous.number(), counter: 7, ..FrameProof::default() };
+    /// frame(&mut state, at, 0, proof, 0, &[], &mut [], &mut log)?;
+    /// assert_eq!(state.mem.last_rx.get(), Some(8000));
+    /// assert_eq!(status(&state, &cfg, &profile, 10_000)?.quiet, Some(8000));
+    ///
+    /// // A frame under epoch 2 brings it to 0.
+    /// let proof = FrameProof { tag: 2, counter: 1, ..FrameProof::default() };
+    /// frame(&mut state, Given { now: 10_500, ..at }, 0, proof, 0, &[], &mut [], &mut log)?;
+    /// assert_eq!(status(&state, &cfg, &profile, 10_500)?.quiet, Some(0));
+    /// # Ok(())
+    /// # }
+    /// ```
     pub quiet: Option<u64>,
 }
 
@@ -855,7 +893,7 @@ pub fn wake(state: &State, cfg: &Config, profile: &Profile) -> Result<Option<u64
     Ok(r.at.get())
 }
 
-/// The link line. Refusals 1 to 6.
+/// The link line: [`Status`] says what each value is. Refusals 1 to 6.
 pub fn status(
     state: &State,
     cfg: &Config,

@@ -285,7 +285,7 @@ pub struct Memory {
     pub abandons: u8,
     /// The last authenticated frame under any epoch.
     pub last_rx: When,
-    /// The last authenticated frame under the current epoch.
+    /// The last authenticated frame under an epoch that was current then.
     pub rx_cur: When,
     /// Data was sealed ([`crate::data_sent`]) since the last current-epoch frame from the peer.
     pub sent_data: bool,
@@ -494,7 +494,7 @@ pub struct Shown {
     pub kind: u8,
     /// As `siklyavon_wake` tells it.
     pub wake: When,
-    /// The time since the last frame under any epoch.
+    /// The time since the current epoch was heard or started: see [`crate::Status::quiet`].
     pub quiet: When,
 }
 

@@ -533,7 +533,8 @@ fn declared() -> String {
 }
 
 /// The version stands for one text of the declarations, here by its FNV-1a number. Where a record,
-/// a number or a call changes, the version rises and both are written anew.
+/// a number or a call changes, the version rises and both are written anew; so it does where a value
+/// keeps its place and gets another meaning, as the quiet time did with version 4.
 #[test]
 fn version() {
     let h = Header::read();
@@ -542,7 +543,7 @@ fn version() {
         .fold(0xcbf2_9ce4_8422_2325_u64, |n, b| (n ^ u64::from(b)).wrapping_mul(0x100_0000_01b3));
     assert_eq!(
         (h.of("LAYOUT"), format!("{number:016x}").as_str()),
-        (3, "41acc7f5d1e86693"),
+        (4, "41acc7f5d1e86693"),
         "the declarations changed: raise SIKLYAVON_LAYOUT, and write both numbers here"
     );
 }

@@ -351,6 +351,68 @@ fn quiet_is_accepted() {
     }
 }
 
+/// Quiet time counts from the current epoch's last frame or from its start, whichever is later, and no
+/// frame under the drained epoch makes it smaller.
+#[test]
+fn quiet_time() {
+    let (cfg, mut log) = (Config::fmp(), Log::new());
+    let line = |s: &State, now| status(s, &cfg, &PROFILE, now).expect("accepted").quiet;
+    let hear = |s: &mut State, now, slot: Slot, tag| {
+        let proof = FrameProof { tag, slot: slot.number(), counter: 5, ..FrameProof::default() };
+        let mut log = Log::new();
+        frame(s, at(&cfg, now), 0, proof, 0, &[], &mut [], &mut log).expect("accepted");
+        told(&log).contains(&Event::Reverted { tag: 1 })
+    };
+
+    // Nothing was heard: the start counts. A clock that is behind gives 0, and so it does up to the end.
+    let mut s = held(&cfg, &mut log);
+    assert_eq!((s.cur.ep.started, s.mem.rx_cur.get()), (1000, None));
+    for (now, time) in [(0, 0), (999, 0), (1000, 0), (1001, 1), (u64::MAX, u64::MAX - 1000)] {
+        assert_eq!(line(&s, now), Some(time));
+    }
+    // The later of the two, one apart on both sides, whatever came under another epoch.
+    for (heard, from) in [(999, 1000), (1000, 1000), (1001, 1001), (u64::MAX, u64::MAX)] {
+        for last in [None, Some(1), Some(5000), Some(u64::MAX)] {
+            (s.mem.rx_cur, s.mem.last_rx) = (Some(heard).into(), last.into());
+            assert_eq!(line(&s, 7000), Some(7000u64.saturating_sub(from)));
+        }
+    }
+
+    // A frame under the drained epoch leaves it; one under the current or the pending one brings it to 0.
+    let mut s = held(&cfg, &mut log);
+    assert!(!hear(&mut s, 8000, Slot::Previous, 2));
+    assert_eq!((s.mem.last_rx.get(), line(&s, 10_000)), (Some(8000), Some(9000)));
+    hear(&mut s, 10_500, Slot::Current, 1);
+    assert_eq!((line(&s, 10_500), line(&s, 11_000)), (Some(0), Some(500)));
+    hear(&mut s, 12_000, Slot::Pending, 3);
+    assert_eq!((s.cur.ep.tag, line(&s, 12_000), line(&s, 12_001)), (3, Some(0), Some(1)));
+
+    // So with what a decrypt worker reports.
+    let mut s = held(&cfg, &mut log);
+    worker(&mut s, at(&cfg, 8000), 0, 2, false, 5, &mut log).expect("accepted");
+    assert_eq!(line(&s, 10_000), Some(9000));
+    worker(&mut s, at(&cfg, 10_500), 0, 1, false, 5, &mut log).expect("accepted");
+    assert_eq!(line(&s, 10_500), Some(0));
+
+    // A frame that reverts does not count: the last one under a current epoch does, or the older start.
+    let mut s = held(&cfg, &mut log);
+    s.cycle.kind = CycleKind::Idle.number();
+    (s.cur.ep.assumed, s.cur.ep.started, s.drain.ep.started) = (true, 6000, 3000);
+    s.mem.rx_cur = Some(5000).into();
+    assert_eq!(line(&s, 10_000), Some(4000));
+    assert!(hear(&mut s, 8000, Slot::Previous, 2));
+    assert_eq!((s.cur.ep.tag, line(&s, 10_000)), (2, Some(5000)));
+    s.mem.rx_cur = None.into();
+    assert_eq!(line(&s, 10_000), Some(7000));
+
+    // Absent exactly without a current epoch.
+    s = State { cycle: Cycle::default(), drain: Drain::default(), ..s };
+    s.cur.some = false;
+    assert_eq!(line(&s, 10_000), None);
+    s.mem.rx_cur = Some(5000).into();
+    assert_eq!(line(&s, 10_000), None);
+}
+
 /// A cycle kind past the last is idle.
 #[test]
 fn kinds_past_the_last() {

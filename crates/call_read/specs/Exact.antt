@@ -2,7 +2,7 @@
 -- tests that concern it pass, and each number is given exactly where its sentence is the first to hold.
 use Prim.Native.Nat.{ℕ}
 use mathlib.Core.Logic.{_↔_, inl, Iff·trans}
-use mathlib.Core.Path.{_≡_, refl, ap}
+use mathlib.Core.Path.{_≡_, refl, sym, ap, subst}
 use mathlib.Core.List.{[]}
 use borrow.Author.Tests.{eq-eqb, ne-eqb}
 use Rattle.time.specs.Pick.{pick}
@@ -18,7 +18,8 @@ use Rattle.law_exact.specs.Words.{GivenOk}
 use Rattle.law_exact.specs.Numbers.{GivenNumbers, StateNumbers, LinkOk, Placed, Linked, anyPlace, linked}
 use Rattle.call_read.specs.declared.Woke.{Woke}
 use Rattle.call_read.specs.declared.Shown.{Shown}
-use Rattle.call_read.specs.Read.{wokeOf, statusOf}
+use Rattle.call_read.specs.Read.{wokeOf, quietTime, statusOf}
+use Rattle.call_read.specs.QuietTime.{QuietExact, quiet-exact}
 
 pub record WakeExact (s : State) (cfg : Config) (p : Profile) (a : Woke) : Type 0 where
   pub accepted : (a .number ≡ 0) ↔ LinkOk s cfg p
@@ -29,12 +30,13 @@ pub record WakeExact (s : State) (cfg : Config) (p : Profile) (a : Woke) : Type 
   pub taken : a .number ≡ 0 → a .at ≡ wakeOf s cfg p
   pub back : (a .number ≡ 0 → ⊥) → a .at ≡ none
 
-pub record StatusExact (s : State) (cfg : Config) (p : Profile) (a : Shown) : Type 0 where
+pub record StatusExact (s : State) (cfg : Config) (p : Profile) (time : ℕ) (a : Shown) : Type 0 where
   pub accepted : (a .number ≡ 0) ↔ LinkOk s cfg p
   pub given : GivenNumbers (a .number) cfg p
   pub state : StateNumbers (a .number) (GivenOk cfg p) s
   pub place : Placed (a .number) (a .place) cfg
-  -- nothing is shown
+  -- the quiet time, where the call is accepted; nothing is shown where it is not
+  pub quiet : a .number ≡ 0 → QuietExact s time (a .quiet)
   pub back : (a .number ≡ 0 → ⊥) → (a .tag ≡ none) × (a .kind ≡ cycleIdle) × (a .wake ≡ none) × (a .quiet ≡ none)
 
 module _ (s : State) (cfg : Config) (p : Profile) where
@@ -57,7 +59,7 @@ module _ (s : State) (cfg : Config) (p : Profile) where
         back = λ h. ap (λ b. pick b (wakeOf s cfg p) none) (ne-eqb (beforeLink s cfg p .number) 0 h);
       }
 
-  pub status-exact : (time : ℕ) → StatusExact s cfg p (statusOf s cfg p time)
+  pub status-exact : (time : ℕ) → StatusExact s cfg p time (statusOf s cfg p time)
   unfolding statusOf
   status-exact time =
       record {
@@ -65,6 +67,8 @@ module _ (s : State) (cfg : Config) (p : Profile) where
         given = read-turn .given;
         state = read-turn .state;
         place = read-turn .place;
+        quiet = λ z.
+            subst (QuietExact s time) (sym (ap (λ b. pick b (quietTime s time) none) (eq-eqb (beforeLink s cfg p .number) 0 z))) (quiet-exact s time);
         back = λ h.
             let e = ne-eqb (beforeLink s cfg p .number) 0 h in
             (rw e, rw e, rw e, rw e);

@@ -9,6 +9,7 @@ use Rattle.numbers.specs.Numbers.{cycleIdle}
 use Rattle.cycle.specs.Kind.{isIdle}
 use Rattle.state.specs.declared.State.{State}
 use Rattle.state.specs.declared.Profile.{Profile}
+use Rattle.start.specs.Start.{latestOf}
 use Rattle.wake.specs.Wake.{wakeOf}
 use Rattle.refusal.specs.declared.Refused.{Refused}
 use Rattle.refusal.specs.Refusal.{beforeLink}
@@ -29,9 +30,10 @@ wokeOf s cfg p =
 unfoldable pub kindShown : ℕ → ℕ
 kindShown kind = pick (isIdle kind) cycleIdle kind
 
--- "quiet time: now less `last_rx`, 0 if the clock is behind, absent if nothing was heard"
-unfoldable pub quietTime : When → ℕ → When
-quietTime heard time = whenever (heard .some) (time - heard .at)
+-- Quiet time, by request 4: "now less the later of `rx_cur` and the current start, 0 if the clock is behind. It is
+-- absent only without a current epoch." A cutover leaves `rx_cur`, so it may be of an epoch that was current before
+unfoldable pub quietTime : State → ℕ → When
+quietTime s time = whenever (s .cur .some) (time - latestOf (s .mem .«rx_cur») (s .cur .ep .started))
 
 -- "The status answer shows current tag, cycle kind, wake, and quiet time"; a refused call shows none
 -- of them
@@ -43,7 +45,7 @@ shownBy r s wake time =
       tag = pick (eqb (r .number) 0) (whenever (s .cur .some) (s .cur .ep .tag)) none;
       kind = pick (eqb (r .number) 0) (kindShown (s .cycle .kind)) cycleIdle;
       wake = pick (eqb (r .number) 0) wake none;
-      quiet = pick (eqb (r .number) 0) (quietTime (s .mem .«last_rx») time) none;
+      quiet = pick (eqb (r .number) 0) (quietTime s time) none;
     }
 
 -- 1 to 6

@@ -1,6 +1,9 @@
 // What is read of a link: its wake (`next_wake` of machine.rs) and the link line.
 ghost use mathlib.Core.Path.{_≡_};
-ghost use Rattle.call_read.specs.Read.{wokeOf, kindShown, quietTime, statusOf};
+ghost use Prim.Native.Nat.{_-_};
+ghost use Rattle.time.specs.Time.{whenever};
+ghost use Rattle.start.specs.Start.{latestOf};
+ghost use Rattle.call_read.specs.Read.{wokeOf, kindShown, statusOf};
 ghost use Rattle.call_read.specs.Exact.{WakeExact, StatusExact};
 use settings::Config;
 use state::Profile;
@@ -15,7 +18,8 @@ pub struct Woke {
     pub at: When,
 }
 
-// The link line: current tag, cycle kind, wake and quiet time.
+// The link line: current tag, cycle kind, wake and quiet time. Quiet is the time since the current
+// epoch was heard or started, whichever is later; frames under the drained epoch do not count.
 #[repr(C)]
 pub struct Shown {
     pub number: u8,
@@ -58,18 +62,19 @@ fn kind_shown(kind: u8) -> u8
     kind
 }
 
-// The time since the last authenticated frame.
-fn quiet_time(heard: When, time: u64) -> When
-    ensures { λ r. ⌜ r ≡ quietTime heard time ⌝ }
+// The time since an epoch, where it is held, was heard or started, whichever is later.
+fn quiet_time(held: bool, heard: When, started: u64, time: u64) -> When
+    ensures { λ r. ⌜ r ≡ whenever held (time - latestOf heard started) ⌝ }
 {
-    let d = time::since(time, heard.at);
-    time::whenever(heard.some, d)
+    let from = start::latest(heard, started);
+    let d = time::since(time, from);
+    time::whenever(held, d)
 }
 
 // The link line. Refusals 1 to 6.
 pub fn status(s: State, cfg: Config, p: Profile, time: u64) -> Shown
     ensures status { λ r. ⌜ r ≡ statusOf s cfg p time ⌝ }
-    ensures exact { λ r. ⌜ StatusExact s cfg p (statusOf s cfg p time) ⌝ }
+    ensures exact { λ r. ⌜ StatusExact s cfg p time (statusOf s cfg p time) ⌝ }
 {
     let back = refusal::before_link(s, cfg, p);
     if back.number != 0 {
@@ -85,7 +90,7 @@ pub fn status(s: State, cfg: Config, p: Profile, time: u64) -> Shown
     let next = wake::next_wake(s, cfg, p);
     let tag = time::whenever(s.cur.some, s.cur.ep.tag);
     let kind = kind_shown(s.cycle.kind);
-    let quiet = quiet_time(s.mem.last_rx, time);
+    let quiet = quiet_time(s.cur.some, s.mem.rx_cur, s.cur.ep.started, time);
     Shown {
         number: back.number,
         place: back.place,

@@ -1,5 +1,5 @@
 -- A start reply, a told sent count, the wake and the link line are decided by what stands.
-use Prim.Native.Nat.{ℕ, _-_}
+use Prim.Native.Nat.{ℕ}
 use mathlib.Core.Bool.{Bool, true, false, not}
 use mathlib.Core.Path.{_≡_, refl, sym, _∙_, ap, ap₂}
 use mathlib.Core.List.{[], _∷_, _++_}
@@ -21,11 +21,11 @@ use Rattle.call_reply.specs.Reply.{setupRtt, setupFirst, setupSched, attemptSch
 use Rattle.time.specs.Time.{whenever}
 use Rattle.call_sent.specs.Told.{putSent, belowHeld, toldTests, toldNumber, toldState, toldOf}
 use Rattle.call_read.specs.Read.{wokeOf, kindShown, quietTime, statusOf}
-use Rattle.law_alike.specs.Optional.{Same, when, picked, both, related}
+use Rattle.law_alike.specs.Optional.{Same, picked, both, related}
 use Rattle.law_alike.specs.Parts.{AlikeEpoch, AlikeMemory, memory-fields}
 use Rattle.law_alike.specs.Cycle.{AlikeCycle, cycle-fields}
 use Rattle.law_alike.specs.Whole.{Alike, cur-some, cur-ep, cur-whole}
-use Rattle.law_alike.specs.Start.{value-alike, interval-alike, start-kind, called-alike}
+use Rattle.law_alike.specs.Start.{value-alike, latest-alike, interval-alike, start-kind, called-alike}
 use Rattle.law_alike.specs.Due.{wake-alike}
 use Rattle.law_alike.specs.Refusals.{tests-alike, link-tests}
 use Rattle.law_agree.specs.Outcomes.{Outcomes, outcome-alike}
@@ -124,6 +124,6 @@ unfolding statusOf quietTime
 status-alike {s} {t} a cfg p time =
     let tag : whenever (s .cur .some) (s .cur .ep .tag) ≡ whenever (t .cur .some) (t .cur .ep .tag) =
     picked (cur-some (a .cur)) (λ q. cc (cur-ep (a .cur) q .tag)) (λ _. refl) in
-    let quiet : quietTime (s .mem .«last_rx») time ≡ quietTime (t .mem .«last_rx») time =
-    when (λ b n. whenever b (time - n)) (λ u v. refl) (memory-fields (a .mem) .lastRx) in
+    let quiet : quietTime s time ≡ quietTime t time =
+    picked (cur-some (a .cur)) (λ q. cc (latest-alike (memory-fields (a .mem) .rxCur) (s .cur .ep .started), cur-ep (a .cur) q .started)) (λ _. refl) in
     cc (before-alike a cfg p, wake-alike a cfg p, kind-shown (cycle-fields (a .cycle)), tag, quiet)

@@ -71,7 +71,7 @@ abbrev profile : Profile
 profile = record { messages = 2; «at_proof» = false; silence = true; smaller = false; floor = 0 }
 
 -- a current epoch of tag 2 with lease 9, assumed and not yet heard, and a drained one of tag 1, until 100 s
-abbrev assumedPair : State
+abbrev pub assumedPair : State
 assumedPair =
     record {
       mem = pair .mem;

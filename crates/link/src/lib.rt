@@ -21,6 +21,7 @@ ghost use Rattle.call_reply.specs.Exact.{ReplyExact};
 ghost use Rattle.poll.specs.Poll.{pollOf};
 ghost use Rattle.poll.specs.Exact.{PollExact};
 ghost use Rattle.poll.specs.Acts.{PollActs};
+ghost use Rattle.law_status.specs.Line.{QuietLine};
 ghost use Rattle.law_runs.specs.Link.{TwoRuns};
 ghost use Rattle.link.specs.Quiet.{Tells};
 use answer::Answer;
@@ -278,11 +279,13 @@ pub extern "C" fn siklyavon_wake(s: State, cfg: Config, p: Profile) -> Woke
     call_read::wake(s, cfg, p)
 }
 
-// The link line.
+// The link line. Its quiet time is the time since the current epoch was heard or started, whichever is
+// later: `QuietLine` says what each call does to it.
 #[no_mangle]
 pub extern "C" fn siklyavon_status(s: State, cfg: Config, p: Profile, time: u64) -> Shown
     ensures status { λ r. ⌜ r ≡ statusOf s cfg p time ⌝ }
-    ensures exact { λ r. ⌜ StatusExact s cfg p (statusOf s cfg p time) ⌝ }
+    ensures exact { λ r. ⌜ StatusExact s cfg p time (statusOf s cfg p time) ⌝ }
+    ensures line { λ r. ⌜ QuietLine ⌝ }
 {
     call_read::status(s, cfg, p, time)
 }

@@ -43,7 +43,7 @@ pub fn silence_interval(mem: Memory, cfg: Config) -> u64
 }
 
 // The later of an instant that may be absent and one that is there.
-fn latest(w: When, t: u64) -> u64
+pub fn latest(w: When, t: u64) -> u64
     ensures { λ r. ⌜ r ≡ latestOf w t ⌝ }
 {
     if w.some { time::max(w.at, t) } else { t }

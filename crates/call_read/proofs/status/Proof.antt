@@ -1,4 +1,4 @@
-use Rattle.call_read.specs.Read.{statusOf}
+use Rattle.call_read.specs.Read.{quietTime, statusOf}
 use Rattle.call_read.specs.Exact.{status-exact}
 use borrow.Author.Tests.{eq-eqb, ne-eqb}
 use Rattle.call_read.proofs.status.Statement.{statement}
@@ -9,7 +9,7 @@ unfolding statusOf
 returns c = (simp (ne-eqb _ _ (c .if1 .taken), ← c .before .before .before-link .ensures), status-exact _ _ _ _)
 
 returns-2 : tie.Need-returns-2
-unfolding statusOf
+unfolding statusOf quietTime
 returns-2 c =
     (simp (c .quiet-time .ensures, c .before .kind-shown .ensures, c .before .before .whenever .ensures, c .before .before .before .next-wake .ensures, eq-eqb _ _ (c .before .before .before .before .if1 .left), ← c .before .before .before .before .before .before .before-link .ensures), status-exact _ _ _ _)
 
