@@ -10,8 +10,10 @@ use lib.IntN.{ℤ}
 use lib.ListN.{length}
 use Rattle.time.specs.declared.When.{When}
 use Rattle.time.specs.Pick.{pick, by-test, of-choice}
+use Rattle.time.specs.Time.{none}
 use Rattle.settings.specs.declared.Config.{Config}
 use Rattle.numbers.specs.Numbers.{slotCurrent, slotPending, slotPrevious, reasonStaleTag, reasonNotDelegated}
+use Rattle.epoch.specs.declared.Index.{Index}
 use Rattle.epoch.specs.Held.{isTag}
 use Rattle.epoch.specs.Put.{putEp}
 use Rattle.state.specs.declared.State.{State}
@@ -19,7 +21,7 @@ use Rattle.state.specs.declared.Profile.{Profile}
 use Rattle.state.specs.declared.Given.{Given}
 use Rattle.state.specs.Parts.{putCur}
 use Rattle.events.specs.Events.{Event, Mark}
-use Rattle.refusal.specs.Refusal.{anyOf, numbered, beforePoll, beforeFrame}
+use Rattle.refusal.specs.Refusal.{anyOf, numbered, beforeOpen, beforePoll, beforeFrame}
 use Rattle.refusal.specs.Standing.{any-append}
 use Rattle.answer.specs.Outcome.{Outcome, done}
 use Rattle.answer.specs.Laws.{by-either, by-zero, by-taken}
@@ -33,12 +35,28 @@ use Rattle.notice_rows.specs.Rows.{isPending, raisedCurrent, raisedPrevious, re
 use Rattle.notice_rows.specs.Laws.{slotted, at-current}
 use Rattle.notice.specs.Notices.{noticeBy, workerAnswer, delegatedAnswer, undelegatedAnswer, dataSentAnswer, pathAnswer}
 use Rattle.poll.specs.Poll.{givenTo, acceptedPoll, pollOf}
+use Rattle.call_open.specs.Open.{newMemory, firstEpoch, alone, freshState, blankState, opened, openOf}
 use Rattle.call_reply.specs.declared.StartReply.{StartReply}
 use Rattle.call_reply.specs.Reply.{memoryAfter, startedOf, takenOf, replyRefused, replyOf}
 use Rattle.call_sent.specs.Told.{putSent, toldNumber, toldState, toldOf}
-use Rattle.law_status.specs.Counts.{Same, HeardAt, same-self}
+use Rattle.law_status.specs.Counts.{Same, HeardAt, Began, same-self}
 use Rattle.law_status.specs.Hearing.{reverts, isReverted, Went, went-after, current-heard, pending-heard, previous-went}
 use Rattle.law_status.specs.Polls.{Polled, passes-after}
+
+-- ---- an open: nothing was heard, and its epoch starts at its instant
+
+module _ (cfg : Config) (p : Profile) (responder : Bool) (transport : ℕ) (lease : Index) (workers : Bool) (spread : ℤ) (time : ℕ) where
+  abbrev o : Outcome
+  o = openOf cfg p responder transport lease workers spread time
+
+  pub open-began : o .number ≡ 0 → (o .state .mem .«rx_cur» ≡ none) × Began (o .state) (o .state) time
+  unfolding openOf opened freshState alone newMemory firstEpoch
+  open-began z =
+      let r = beforeOpen cfg p spread in
+      let fresh = opened responder transport lease workers spread time in
+      subst (λ (x : Outcome). (x .state .mem .«rx_cur» ≡ none) × Began (x .state) (x .state) time)
+      (sym (by-taken r blankState fresh (by-zero r blankState fresh refl z)))
+      (refl, record { held = refl; heard = refl; started = refl })
 
 -- ---- a poll
 
@@ -86,17 +104,23 @@ module _ (s : State) (cfg : Config) (profile : Profile) (time : ℕ) (workers : 
   current-held z e =
       sym (ap (λ n. slotTag s n .some) e) ∙ frame-exact s cfg profile time workers spread p body source target .accepted .0 z .held
 
-  slot-heard : a .number ≡ 0 → (p .slot ≡ slotCurrent) ⊎ (p .slot ≡ slotPending) → HeardAt (slotFrame s g spread p body source target .state) time
-  unfolding slotFrame currentFrame givenOf
+  -- the row of a slot
+  abbrev rowOf : ℕ → FrameStep
+  rowOf n =
+      pick (eqb n slotPending) (pendingFrame s g spread p body source target)
+      (pick (eqb n slotCurrent) (currentFrame s g p body source target) (previousFrame s g p body source target))
+
+  slot-heard : a .number ≡ 0 → (p .slot ≡ slotCurrent) ⊎ (p .slot ≡ slotPending) → HeardAt (rowOf (p .slot) .state) time
+  unfolding currentFrame givenOf
   slot-heard z w =
       ⊎-elim
-      (λ e. subst (λ n. HeardAt (pick (eqb n slotPending) (pendingFrame s g spread p body source target) (pick (eqb n slotCurrent) (currentFrame s g p body source target) (previousFrame s g p body source target)) .state) time) (sym e) (current-heard s g (p .k) (p .probe) (current-held z e)))
-      (λ e. subst (λ n. HeardAt (pick (eqb n slotPending) (pendingFrame s g spread p body source target) (pick (eqb n slotCurrent) (currentFrame s g p body source target) (previousFrame s g p body source target)) .state) time) (sym e) (pending-heard s g spread p body source target))
+      (λ e. subst (λ n. HeardAt (rowOf n .state) time) (sym e) (current-heard s g (p .k) (p .probe) (current-held z e)))
+      (λ e. subst (λ n. HeardAt (rowOf n .state) time) (sym e) (pending-heard s g spread p body source target))
       w
 
   -- "heard on the current epoch": on the one that is current, or on the pending one, which it makes current
   pub frame-heard : a .number ≡ 0 → (p .slot ≡ slotCurrent) ⊎ (p .slot ≡ slotPending) → HeardAt (a .state) time
-  unfolding frameOf
+  unfolding frameOf slotFrame
   frame-heard z w = subst (λ (x : Outcome). HeardAt (x .state) time) (sym (frame-taken z)) (slot-heard z w)
 
   previous-frame : Went s (Mark (p .tag) (p .counter) ∷ previousFrame s g p body source target .out) (previousFrame s g p body source target .state)
@@ -111,9 +135,7 @@ module _ (s : State) (cfg : Config) (profile : Profile) (time : ℕ) (workers : 
 
   slot-went : p .slot ≡ slotPrevious → Went s (f .out) (f .state)
   unfolding frameOf slotFrame
-  slot-went e =
-      subst (λ n. Went s (Mark (p .tag) (p .counter) ∷ pick (eqb n slotPending) (pendingFrame s g spread p body source target) (pick (eqb n slotCurrent) (currentFrame s g p body source target) (previousFrame s g p body source target)) .out) (pick (eqb n slotPending) (pendingFrame s g spread p body source target) (pick (eqb n slotCurrent) (currentFrame s g p body source target) (previousFrame s g p body source target)) .state))
-      (sym e) previous-frame
+  slot-went e = subst (λ n. Went s (Mark (p .tag) (p .counter) ∷ rowOf n .out) (rowOf n .state)) (sym e) previous-frame
 
   -- "heard only on its drain"
   pub frame-drained : p .slot ≡ slotPrevious → Went s (a .out) (a .state)

@@ -12,6 +12,7 @@ use Rattle.time.specs.Pick.{pick}
 use Rattle.time.specs.Time.{none, at}
 use Rattle.settings.specs.declared.Config.{Config}
 use Rattle.numbers.specs.Numbers.{slotCurrent, slotPending, slotPrevious}
+use Rattle.epoch.specs.declared.Index.{Index}
 use Rattle.epoch.specs.Held.{isTag}
 use Rattle.state.specs.declared.State.{State}
 use Rattle.state.specs.declared.Profile.{Profile}
@@ -29,6 +30,8 @@ use Rattle.notice.specs.Notices.{workerAnswer, delegatedAnswer, undelegatedAnsw
 use Rattle.notice.specs.Exact.{notice-exact}
 use Rattle.poll.specs.Poll.{pollOf}
 use Rattle.poll.specs.Laws.{poll-kept}
+use Rattle.call_open.specs.Open.{openOf}
+use Rattle.call_open.specs.Exact.{open-exact}
 use Rattle.call_reply.specs.declared.StartReply.{StartReply}
 use Rattle.call_reply.specs.Reply.{replyOf}
 use Rattle.call_sent.specs.Told.{toldOf}
@@ -36,11 +39,11 @@ use Rattle.call_read.specs.Read.{quietTime, statusOf}
 use Rattle.call_read.specs.Exact.{status-exact}
 use Rattle.law_frame.specs.Frames.{frame-kept}
 use Rattle.law_reply.specs.Reply.{reply-kept}
-use Rattle.law_reply.specs.Told.{told-kept}
+use Rattle.law_reply.specs.Told.{told-kept, open-kept}
 use Rattle.law_notice.specs.Kept.{notice-keeps, worker-keeps, handed-keeps, data-keeps, path-keeps}
 use Rattle.law_status.specs.Counts.{Same, HeardAt, Began, quiet-same, quiet-began, quiet-heard, quiet-now}
 use Rattle.law_status.specs.Hearing.{reverts, Went}
-use Rattle.law_status.specs.Calls.{poll-counts, frame-heard, frame-drained, worker-heard, worker-drained, delegated-same, undelegated-same, data-same, path-same, reply-same, told-same}
+use Rattle.law_status.specs.Calls.{open-began, poll-counts, frame-heard, frame-drained, worker-heard, worker-drained, delegated-same, undelegated-same, data-same, path-same, reply-same, told-same}
 
 -- ---- the line of s, and that of a state x which follows it
 
@@ -107,6 +110,11 @@ drained s x out kept w = (
 -- ---- the calls
 
 pub record QuietLine : Type 0 where
+  -- a fresh link: the time since its open
+  pub opened :
+      (cfg : Config) (p : Profile) (responder : Bool) (transport : ℕ) (lease : Index) (workers : Bool) (spread : ℤ) (time : ℕ)
+      → openOf cfg p responder transport lease workers spread time .number ≡ 0
+      → (u : ℕ) → statusOf (openOf cfg p responder transport lease workers spread time .state) cfg p u .quiet ≡ at (u - time)
   -- a frame heard on the current epoch, or on the pending one, which it makes current: the line at its instant says 0
   pub heard :
       (s : State) (cfg : Config) (profile : Profile) (time : ℕ) (workers : Bool) (spread : ℤ) (p : FrameProof) (body : ℕ) (source target : List ℕ)
@@ -124,7 +132,7 @@ pub record QuietLine : Type 0 where
       → workerAnswer s cfg p time workers spread tag k counter .number ≡ 0 → s .cur .some ≡ true → s .cur .ep .tag ≡ tag
       → (statusOf (workerAnswer s cfg p time workers spread tag k counter .state) cfg p time .quiet ≡ at 0)
       × ZeroAt s (workerAnswer s cfg p time workers spread tag k counter .state) time
-  pub reported-else :
+  pub reported-other :
       (s : State) (cfg : Config) (p : Profile) (spread : ℤ) (time : ℕ) (workers : Bool) (tag : ℕ) (k : Bool) (counter : ℕ)
       → isTag (s .cur .some) (s .cur .ep .tag) tag ≡ false
       → Drained s (workerAnswer s cfg p time workers spread tag k counter .out) (workerAnswer s cfg p time workers spread tag k counter .state)
@@ -140,6 +148,11 @@ pub record QuietLine : Type 0 where
   pub data-sent : (s : State) (cfg : Config) (p : Profile) (spread : ℤ) → Leaves s (dataSentAnswer s cfg p spread .state)
   pub path : (s : State) (cfg : Config) (p : Profile) (spread : ℤ) (reachable : Bool) (srtt : When) → Leaves s (pathAnswer s cfg p spread reachable srtt .state)
 
+-- where nothing was heard, it counts from the start
+from-start : {w : When} → w ≡ none → (t u : ℕ) → at (u - latestOf w t) ≡ at (u - t)
+unfolding latestOf
+from-start e t u = ap (λ (v : When). at (u - latestOf v t)) e
+
 -- the line of x at t, where x was heard at t
 zero-now : (s x : State) → (Sound s → Sound x) → (cfg : Config) (p : Profile) (t : ℕ) → LinkOk s cfg p → HeardAt x t → statusOf x cfg p t .quiet ≡ at 0
 zero-now s x kept cfg p t o h =
@@ -148,6 +161,11 @@ zero-now s x kept cfg p t o h =
 pub quiet-line : QuietLine
 quiet-line =
     record {
+      opened = λ cfg p responder transport lease workers spread time z u.
+          let x = openOf cfg p responder transport lease workers spread time .state in
+          let o : LinkOk x cfg p = record { given = open-exact cfg p spread responder transport lease workers time .accepted .0 z .given; state = sound-words x .0 (open-kept cfg p responder transport lease workers spread time) } in
+          let b = open-began cfg p responder transport lease workers spread time z in
+          shows x cfg p u o .1 ∙ (quiet-began (b .1) u ∙ from-start (b .0) time u);
       heard = λ s cfg profile time workers spread p body source target z w.
           let x = frameAnswer s cfg profile time workers spread p body source target .state in
           let kept = frame-kept s cfg profile time workers spread p body source target in
@@ -163,7 +181,7 @@ quiet-line =
           let h = worker-heard s cfg p spread time workers tag k counter z c e in
           let o = notice-exact s cfg p spread step .accepted .0 z .link in
           (zero-now s x kept cfg p time o h, λ cfg′ p′ u q. zero-at s x kept cfg′ p′ u q h);
-      reported-else = λ s cfg p spread time workers tag k counter e.
+      reported-other = λ s cfg p spread time workers tag k counter e.
           let step = workerOf s (givenOf cfg p time workers) tag k counter in
           drained s _ _ (notice-keeps s cfg p spread step (worker-keeps s (givenOf cfg p time workers) tag k counter) .sound) (worker-drained s cfg p spread time workers tag k counter e);
       polled = λ s cfg p now workers spread extra.
