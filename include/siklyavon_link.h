@@ -787,6 +787,7 @@ siklyavon_woke siklyavon_wake(siklyavon_state s, siklyavon_config cfg, siklyavon
  *
  * Quiet is the time since the current epoch was heard or started, whichever is later: time less the later
  * of mem.rx_cur and cur.ep.started, 0 if the clock is behind, none exactly without a current epoch.
+ *   - Behind siklyavon_open it is the time since then.
  *   - At the instant of an accepted siklyavon_frame under the current or the pending epoch, or of a
  *     siklyavon_worker under the current one, it is 0.
  *   - A frame or a worker's report under the drained epoch leaves it, but where REVERTED is told. Then it
