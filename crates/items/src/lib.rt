@@ -3,6 +3,7 @@
 // Items stand in three lent arrays, one to a field: the instant, the kind and the key, which is a
 // tag or a sequence number. A second pair of arrays holds the kinds and keys that earlier passes
 // listed.
+#![tactic(auto)]
 ghost use Rattle.std.specs.Prelude.{◌≡◌, ◌≤◌, ◌<◌, length};
 ghost use Rattle.time.specs.Time.{least};
 ghost use Rattle.items.specs.Items.{item, before, names, listed_in};

@@ -2,6 +2,7 @@
 //
 // A schedule is a short list of offsets from an origin. A ladder is a schedule anchored at an
 // instant, with a cursor at the next rung. A late poll takes every overdue rung at once.
+#![tactic(auto)]
 ghost use Rattle.std.specs.Prelude.{◌≡◌, Bool, ◌<◌, ◌-◌, ◌^◌};
 ghost use Rattle.time.specs.Pick.{pick};
 ghost use Rattle.time.specs.Lists.{fold};

@@ -1,1 +1,2 @@
 // Laws: an item of a poll moves no start past the instant. No code: see specs/.
+#![tactic(auto)]

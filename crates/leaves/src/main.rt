@@ -2,6 +2,7 @@
 // line, for a comparison with the Rust. It drops each line that begins with `= `, and writes every
 // other line with its answer lines, which begin so. A line that does not read is told on standard
 // error, and the program stops there.
+#![tactic(auto)]
 mod forms;
 
 use leaves_requests::{Form, ROW};

@@ -1,5 +1,6 @@
 // Requests to the time, schedules, ladders and settings of a link, and their answers, as rows of
 // numbers.
+#![tactic(auto)]
 mod answers;
 mod patterns;
 mod row;

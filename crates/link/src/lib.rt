@@ -1,6 +1,7 @@
 // The calls of a link, exported for Rust and C: each is the proved call and promises what that call
 // promises. Records cross by value, laid out as C does; no enum crosses; the log and a frame's two
 // buffers are lent.
+#![tactic(auto)]
 ghost use Rattle.std.specs.Prelude.{◌≡◌, []};
 ghost use Rattle.settings.specs.Settings.{fmp, fsp, place_of};
 ghost use Rattle.answer.specs.Answers.{Answers};

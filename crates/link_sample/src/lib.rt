@@ -1,5 +1,6 @@
 // A sample of each record that crosses to Rust, every field with a number or a flag of its own
 // within its record: a caller that lays a record out differently reads something else.
+#![tactic(auto)]
 ghost use Rattle.std.specs.Prelude.{◌≡◌};
 ghost use Rattle.link_sample.specs.Sample.{rungs_of, last_of, repeats_of, keys_of, held_of, kept_of, own_of, ready_of, theirs_of, turn_of, waiting_of, facts_of, whole_of, values_of, flags_of, beside_of, proof_of, answer_of};
 

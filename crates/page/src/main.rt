@@ -1,6 +1,7 @@
 // Holds docs/EVENTS.md to the lists: every row of the page, in order, begins with what the lists of
 // crates `text_lists` and `text_words` say, and no entry lacks a row. It reads the page and writes a line
 // for each row that does not agree, and how many do.
+#![tactic(auto)]
 mod rows;
 
 use libc::{STDIN_FILENO, STDOUT_FILENO};

@@ -1,6 +1,7 @@
 // What a pass lists (machine.rs: `due`, and the list that `poll` makes of it).
 //
 // Items stand in three lent arrays, one to a field, and what earlier passes listed in two more.
+#![tactic(auto)]
 ghost use Rattle.std.specs.Prelude.{◌≡◌, [], ◌∷◌, ◌++◌, ◌≤◌, ◌<◌, ◌+◌};
 ghost use Rattle.time.specs.Pick.{pick};
 ghost use Rattle.candidates.specs.Held.{held_of};

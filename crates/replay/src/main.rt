@@ -1,6 +1,7 @@
 // A filter over the replay format: blocks of settings, a profile, a state and calls. It drops each
 // line that begins with `= `, and writes every other line, and behind each call the link's own
 // answer. A line that does not read is told on standard error, and the program stops there.
+#![tactic(auto)]
 mod blocks;
 mod lines;
 mod reading;

@@ -1,4 +1,5 @@
 // Calls answered in the replay format. No public function has a `requires`.
+#![tactic(auto)]
 use answer::Answer;
 use call_read::{Shown, Woke};
 use libc::STDOUT_FILENO;

@@ -1,6 +1,7 @@
 // Reads one line, `probes FIRST COUNT END GAP` or `doubling FIRST COUNT` with or without END, and
 // writes the rungs of that schedule and how many were dropped. Anything else is told on standard
 // error, and then nothing is written.
+#![tactic(auto)]
 use ladder::{MAX_RUNGS, Made, Schedule};
 use libc::{STDERR_FILENO, STDIN_FILENO, STDOUT_FILENO};
 use text::Scan;

@@ -1,6 +1,7 @@
 // Reads a caller's list of calls on a link, one a line, and writes a line for each event that the
 // link tells. docs/RUNS.md has the lines, the arguments and their defaults. A line that does not
 // read is told on standard error, and the program stops there.
+#![tactic(auto)]
 mod faults;
 mod lines;
 mod steps;

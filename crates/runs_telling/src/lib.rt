@@ -1,5 +1,6 @@
 // Calls on a link, and what it tells: call number, instant, name and two columns, and the words behind
 // them where they are asked for. No public function has a `requires`.
+#![tactic(auto)]
 use answer::Answer;
 use call_read::{Shown, Woke};
 use libc::STDOUT_FILENO;

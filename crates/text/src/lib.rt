@@ -1,5 +1,6 @@
 // The fields of a line: words and decimal numbers, separated by single spaces. A line is a slice
 // without its newline. No public function has a `requires`.
+#![tactic(auto)]
 mod field;
 mod number;
 mod scan;

@@ -2,6 +2,7 @@
 // be absent take two places, and a number with a sign stands 2^31 above itself. No function has a
 // `requires`: past the end of the row a number is 0, and a number that a narrower type does not hold
 // becomes its largest.
+#![tactic(auto)]
 ghost use Rattle.std.specs.Prelude.{◌≡◌, ◌+◌};
 ghost use Rattle.text_args.specs.Args.{number_at, flag_at, byte_at, word_at, signed_at, index_at, when_at, extra_at, largest_word};
 ghost use Rattle.time.specs.Time.{least};

@@ -1,5 +1,6 @@
 // Buffers in hex: two digits a byte, and `-` for an empty buffer. No public function has a
 // `requires`.
+#![tactic(auto)]
 ghost use Rattle.std.specs.Prelude.{◌≡◌, ◌≤◌};
 
 use libc::STDOUT_FILENO;

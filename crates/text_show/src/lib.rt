@@ -1,4 +1,5 @@
 // The state of a row as a line of the replay format. No public function has a `requires`.
+#![tactic(auto)]
 use libc::STDOUT_FILENO;
 use text_form::places;
 use text_lines::Output;

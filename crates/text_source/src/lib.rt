@@ -1,5 +1,6 @@
 // The arguments of a program that reads lines: `--help`, and the files that it reads. Arguments are
 // numbered from 1. No public function has a `requires`.
+#![tactic(auto)]
 use libc::STDIN_FILENO;
 
 // How many arguments stand behind the program's name.

@@ -18,6 +18,7 @@
 //   ?           by place in `runs`, where it may be left out; not in `replay`
 //   .           the value stays what it was: the settings' so far, or that of a record as it was made
 //   @           the tag of the current epoch; of a frame, that of the epoch in its slot
+#![tactic(auto)]
 mod names;
 mod walk;
 

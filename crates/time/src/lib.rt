@@ -1,6 +1,8 @@
 // Time: instants and durations are whole milliseconds in 64 unsigned bits.
 //
 // Ported from core/src/time/mod.rs (`backoff`), ladder.rs (`later`) and machine.rs (`since`).
+#![tactic(auto)]
+
 ghost use Rattle.std.specs.Prelude.{◌≡◌, Bool, ◌+◌, ◌-◌};
 ghost use Rattle.time.specs.Pick.{pick, and as and_of};
 ghost use Rattle.time.specs.Time.{later_of, sum_of, later_by_of, sat_add, sat_mul, factor_of, backoff_of, least, most, reached_of, sooner_of, whenever as whenever_of};
