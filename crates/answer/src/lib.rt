@@ -10,7 +10,7 @@ use state::State;
 // The refusal's number, 0 where there is none, with the check's place in 1; the state; how many
 // events the log has; and how many items the passes of a poll listed.
 #[repr(C)]
-#[derive(Drop)]
+#[derive(Clone, Copy)]
 pub struct Answer {
     pub number: u8,
     pub place: u8,

@@ -11,7 +11,7 @@ ghost use Rattle.candidates.specs.Repeats.{repeated, rises};
 use time::When;
 
 #[repr(C)]
-#[derive(Drop)]
+#[derive(Clone, Copy)]
 pub struct Candidates {
     pub hs: [u64; 32],
     pub msg1: [u64; 32],
@@ -32,7 +32,7 @@ pub struct Candidates {
 }
 
 // The candidates left, and whether one went.
-#[derive(Drop)]
+#[derive(Clone, Copy)]
 pub struct Expired {
     pub cands: Candidates,
     pub gone: bool,

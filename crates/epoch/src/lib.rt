@@ -12,7 +12,7 @@ use time::When;
 
 // An index that may be absent: 32 bits, as the source's.
 #[repr(C)]
-#[derive(Drop)]
+#[derive(Clone, Copy)]
 pub struct Index {
     pub some: bool,
     pub index: u32,
@@ -21,7 +21,7 @@ pub struct Index {
 // The session indices of an epoch: this node's lease (its index), the peer's, and the transport
 // that the binding was made on.
 #[repr(C)]
-#[derive(Drop)]
+#[derive(Clone, Copy)]
 pub struct Ids {
     pub lease: Index,
     pub theirs: Index,
@@ -30,7 +30,7 @@ pub struct Ids {
 
 // A retained final message and its resend ladder, if there is one.
 #[repr(C)]
-#[derive(Drop)]
+#[derive(Clone, Copy)]
 pub struct Final {
     pub some: bool,
     pub msg: u64,
@@ -39,14 +39,14 @@ pub struct Final {
 
 // A ladder that may be absent.
 #[repr(C)]
-#[derive(Drop)]
+#[derive(Clone, Copy)]
 pub struct MayLadder {
     pub some: bool,
     pub ladder: Ladder,
 }
 
 #[repr(C)]
-#[derive(Drop)]
+#[derive(Clone, Copy)]
 pub struct Epoch {
     pub tag: u64,
     pub session: u64,
@@ -81,7 +81,7 @@ pub struct Epoch {
 
 // The current epoch, if there is one.
 #[repr(C)]
-#[derive(Drop)]
+#[derive(Clone, Copy)]
 pub struct MayEpoch {
     pub some: bool,
     pub ep: Epoch,
@@ -89,7 +89,7 @@ pub struct MayEpoch {
 
 // The previous epoch, kept after a cutover, if there is one.
 #[repr(C)]
-#[derive(Drop)]
+#[derive(Clone, Copy)]
 pub struct Drain {
     pub some: bool,
     pub ep: Epoch,

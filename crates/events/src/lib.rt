@@ -16,7 +16,7 @@ use numbers::event;
 use time::When;
 
 // The words of one place: an event's number and its fields, then zeros.
-#[derive(Drop)]
+#[derive(Clone, Copy)]
 pub struct Words {
     pub kind: u64,
     pub a: u64,

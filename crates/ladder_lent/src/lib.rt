@@ -8,7 +8,7 @@ use ladder::Ladder;
 
 // What was taken: whether some rung was due, how many were, whether one was no keepalive, the offset of
 // the last one, and whether none is left.
-#[derive(Drop)]
+#[derive(Clone, Copy)]
 pub struct Taken {
     pub any: bool,
     pub taken: u64,

@@ -15,14 +15,14 @@ use time::When;
 // Resends that were asked for and are in no schedule, since they fall at or after their deadline
 // or find no room.
 #[repr(C)]
-#[derive(Drop)]
+#[derive(Clone, Copy)]
 pub struct Inert {
     pub first: u8,
     pub probes: u8,
 }
 
 // Settings and every value derived from them.
-#[derive(Drop)]
+#[derive(Clone, Copy)]
 pub struct Params {
     pub cfg: Config,
     // The confirmation window: the handshake timeout plus one check.
@@ -54,14 +54,14 @@ pub struct Params {
 
 // The place of the first check that refuses the settings, 0 where they are accepted, and the
 // derived values, which mean something only then.
-#[derive(Drop)]
+#[derive(Clone, Copy)]
 pub struct NewParams {
     pub place: u8,
     pub params: Params,
 }
 
 // The derived durations.
-#[derive(Drop)]
+#[derive(Clone, Copy)]
 pub struct Lengths {
     pub confirm: u64,
     pub span: When,
@@ -72,7 +72,7 @@ pub struct Lengths {
 }
 
 // The derived schedules.
-#[derive(Drop)]
+#[derive(Clone, Copy)]
 pub struct Schedules {
     pub first: Made,
     pub fin: Made,

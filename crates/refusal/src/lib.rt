@@ -13,7 +13,7 @@ use time::When;
 
 // The number of the first refusal, 0 where the call is accepted; and in 1 the place of the check.
 #[repr(C)]
-#[derive(Drop)]
+#[derive(Clone, Copy)]
 pub struct Refused {
     pub number: u8,
     pub place: u8,

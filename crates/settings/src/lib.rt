@@ -7,7 +7,7 @@ ghost use Rattle.settings.specs.Settings.{fmp as fmp_of, fsp as fsp_of, failing,
 
 // The settings of a link. Durations are whole milliseconds.
 #[repr(C)]
-#[derive(Drop)]
+#[derive(Clone, Copy)]
 pub struct Config {
     // The time trigger: rekey this long after the last cutover.
     pub after: u64,
