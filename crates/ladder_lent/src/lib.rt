@@ -1,6 +1,7 @@
 // A ladder lent for change: one thin call takes its due rungs, and its next index moves in place
 // over the by-value `take` (ladder.rs, `take`).
 #![tactic(auto)]
+
 ghost use Rattle.std.specs.Prelude.{◌≡◌};
 ghost use Rattle.ladder_lent.specs.Lent.{next_after, taken_of, moved_to};
 

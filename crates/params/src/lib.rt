@@ -4,6 +4,7 @@
 // `Params::backoff`). Every function takes any settings; those that the checks accept give the
 // Rust's values.
 #![tactic(auto)]
+
 ghost use Rattle.std.specs.Prelude.{◌≡◌, ◌-◌};
 ghost use Rattle.time.specs.Time.{backoff_of};
 ghost use Rattle.params.specs.Params.{value_or, last_offset, endless, probing, confirm_of, span_of, rung_of, gap_of, msg1_span, budget_of, first_made, fin_made, probes_made, revert_made, elicit_made, delayed_made, grace_of, with_hold_of, lengths_of, schedules_of, new_of};

@@ -2,6 +2,7 @@
 //
 // Ported from core/src/proto/rekey/params.rs (`Config` and `Params::check`).
 #![tactic(auto)]
+
 ghost use Rattle.std.specs.Prelude.{◌≡◌, ◌+◌, leb, ltb, take, drop};
 ghost use Rattle.settings.specs.Settings.{fmp as fmp_of, fsp as fsp_of, failing, first_at, place_of};
 
