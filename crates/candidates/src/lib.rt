@@ -3,6 +3,7 @@
 // One array to a field, so that a removal moves numbers and copies no record. Places from `len` on
 // are no part of the state.
 #![tactic(auto)]
+
 ghost use Rattle.std.specs.Prelude.{◌≡◌, [], ◌+◌, ◌≤◌, ◌<◌, length, get_or};
 ghost use Rattle.time.specs.Lists.{kept};
 ghost use Rattle.candidates.specs.Held.{held_of, between, firsts, held_by, without, expired_in, born_after, earliest_of, place_of, chosen, others, choosing, removed_of, younger, kept_after, cleared_of, expire_of};

@@ -3,6 +3,7 @@
 // The kind is a number of `numbers::cycle`; any other counts as idle. Only the record of the kind's own
 // case is part of the state.
 #![tactic(auto)]
+
 ghost use Rattle.std.specs.Prelude.{◌≡◌};
 ghost use Rattle.cycle.specs.Held.{is_own, is_peers};
 

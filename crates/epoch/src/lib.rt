@@ -4,6 +4,7 @@
 // `Option` is a flag beside the value; a two-valued enum is a flag. What stands behind a flag that
 // is off is no part of the state.
 #![tactic(auto)]
+
 ghost use Rattle.std.specs.Prelude.{◌≡◌};
 ghost use Rattle.epoch.specs.Held.{is_tag};
 
