@@ -1,6 +1,7 @@
 // What a call answers, and the two ways out of one: sent back by a number, or finished. Every call
 // that hands a state back ends here.
 #![tactic(auto)]
+
 ghost use Rattle.std.specs.Prelude.{◌≡◌};
 ghost use Rattle.answer.specs.Answers.{back_with, taken_with};
 

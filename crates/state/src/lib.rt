@@ -1,5 +1,6 @@
 // The link's state, and what a call is given beside it (machine.rs).
 #![tactic(auto)]
+
 use candidates::Candidates;
 use cycle::Cycle;
 use epoch::{Drain, MayEpoch};
