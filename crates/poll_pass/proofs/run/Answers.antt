@@ -1,8 +1,7 @@
+use mathlib.Core.Path.{refl, sym}
+use mir.Facts.{to_z-of_z}
 use Prim.Native.Nat.{◌-◌}
 use native.Mathlib.Omega.{arith}
-use mir.Facts.{to_z-of_z}
-use mir.Syntax.{w32}
-use mir.Val.{to_z}
 use Rattle.time.specs.Laws.{least-le}
 use Rattle.items.specs.Arrays.{most}
 use Rattle.poll_pass.specs.Laws.{Along, along_start, along-next, along_done}
@@ -40,4 +39,4 @@ loop-i-preserved c =
 
 pub returns : goal.returns
 returns c =
-    rw c.bounded-count.ensures at (along_done _ _ _ _ _ _ _ _ _ _ _ _ _ _ c.loop-i.invariant _ (to_z-of_z c.ranges.spread) c.loop-i-test.false)
+    rw c.bounded-count.ensures at (along_done _ _ _ _ _ _ _ _ _ _ _ _ _ _ c.loop-i.invariant _ (sym (to_z-of_z c.ranges.spread)) c.loop-i-test.false)
