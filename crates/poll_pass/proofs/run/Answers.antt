@@ -1,4 +1,3 @@
-use mathlib.Core.Path.{refl, sym}
 use mir.Facts.{to_z-of_z}
 use Prim.Native.Nat.{◌-◌}
 use native.Mathlib.Omega.{arith}
@@ -39,4 +38,4 @@ loop-i-preserved c =
 
 pub returns : goal.returns
 returns c =
-    rw c.bounded-count.ensures at (along_done _ _ _ _ _ _ _ _ _ _ _ _ _ _ c.loop-i.invariant _ (sym (to_z-of_z c.ranges.spread)) c.loop-i-test.false)
+    rw c.bounded-count.ensures at (along_done _ _ _ _ _ _ _ _ _ _ _ _ _ _ c.loop-i.invariant _ (to_z-of_z c.ranges.spread) c.loop-i-test.false)
