@@ -6,7 +6,7 @@ use Rattle.time.specs.Time.{least, reached_of}
 use Rattle.ladder.specs.declared.Ladder.{Ladder}
 use Rattle.ladder.specs.Schedule.{Rung}
 use Rattle.ladder.specs.Ladder.{remaining, first_at, next_at_of, instant_of}
-use Rattle.ladder.specs.Laws.{next_instant}
+use Rattle.ladder.proofs.Laws.{next_instant}
 use Rattle.candidates.specs.Held.{held_of, between, firsts, earliest_of}
 use Rattle.candidates.specs.Repeats.{repeated, rises}
 use Rattle.candidates.specs.Places.{rises-once}

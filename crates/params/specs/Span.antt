@@ -6,8 +6,8 @@ use Rattle.time.specs.Lists.{fold, range, kept}
 use Rattle.time.specs.Time.{end, none, at, least, most, sat_mul}
 use Rattle.time.specs.Laws.{least-left, least-right, least-le, decide}
 use Rattle.ladder.specs.Schedule.{max_rungs, send, cut, doubled, before, made_of, doubling_of, last_of, last_send_of}
-use Rattle.ladder.specs.Laws.{plan-most}
-use Rattle.ladder.specs.Rungs.{rungs-laid}
+use Rattle.ladder.proofs.Laws.{plan-most}
+use Rattle.ladder.proofs.Rungs.{rungs-laid}
 use Rattle.params.specs.Params.{value_or, last_offset, msg1_span}
 
 -- without an end every offset is kept
