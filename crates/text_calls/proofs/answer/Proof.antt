@@ -1,5 +1,5 @@
 use borrow.Author.Rules.{rules}
-use Rattle.text_calls.specs.Laws.{by_open, by-poll, by-frame, by-reply, by-sent, by-notice}
+use Rattle.text_calls.proofs.Laws.{by_open, by-poll, by-frame, by-reply, by-sent, by-notice}
 use Rattle.text_calls.proofs.answer.Statement.{statement}
 use Rattle.text_calls.proofs.answer.Tie as tie
 
