@@ -6,7 +6,7 @@ mod number;
 mod scan;
 mod signed;
 
-pub use field::{Field, behind, field_bytes, find, next_field, ordinal};
+pub use field::{Field, behind, field_bytes, find, find_before, next_field, ordinal};
 pub use number::{EMPTY, EXTRA, MISSING, NONE, NOT_DIGIT, NOT_WORD, Number, TOO_LARGE, parse};
 pub use scan::{Accepted, Place, Read, ReadSigned, Scan, Word, place_of};
 pub use signed::{Signed, parse_signed};
