@@ -218,7 +218,3 @@ pub ruleset ordinal_laws = (count-step, one-le, ordinal_here, ordinal_past)
 pub ruleset digit_laws = (all-step, all-stop, all_done)
 
 pub ruleset value_laws = (value-step, value-more, value-done, le-leb, lt-leb)
-
-pub ruleset place_laws = (same-is, rest_all, place_none, place_here, place-next, field_within)
-
-pub ruleset same_laws = (same-is)

@@ -1,6 +1,7 @@
 // The fields of a line: words and decimal numbers, separated by single spaces. A line is a slice
-// without its newline. No public function has a `requires`.
+// without its newline. No public function but `find_before` has a `requires`.
 #![tactic(auto)]
+
 mod field;
 mod number;
 mod scan;

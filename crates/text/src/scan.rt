@@ -182,7 +182,7 @@ fn moved_signed(at: usize, next: usize, n: Signed) -> ReadSigned
     }
 }
 
-#[tactic(auto, using(crate::proofs::Laws::field_within, crate::proofs::Laws::same_laws), unfolding(crate::specs::Scans::accept_from))]
+#[tactic(auto, using(crate::proofs::Laws::field_within), unfolding(crate::specs::Scans::accept_from))]
 fn accept_at(line: &[u8], at: usize, word: &[u8]) -> Accepted
     ensures { result ≡ accept_from line.now at word.now }
 {
@@ -242,7 +242,7 @@ fn worded(at: usize, next: usize, p: Place) -> Word
 }
 
 // The place of the field of `words` that is `word`.
-#[tactic(auto, using(crate::proofs::Laws::place_laws))]
+#[tactic(auto, using(crate::proofs::Laws::field_within))]
 pub fn place_of(words: &[u8], word: &[u8]) -> Place
     ensures { result ≡ place_of words.now word.now }
 {

@@ -11,7 +11,7 @@ use text_lines::Output;
 pub const NOT_HEX: u8 = 7;
 
 // How many bytes a buffer has, and the scan past it.
-#[derive(Drop)]
+#[derive(Clone, Copy)]
 pub struct Buffer {
     pub scan: Scan,
     pub len: usize,

@@ -9,7 +9,7 @@ use lib.ListN.{length, get_or, take, drop, length-drop}
 use lib.Seq.{get_or-drop, paste, take-paste, drop-paste}
 use lib.Dec.{T, ltb}
 use borrow.Author.Tests.{ltb-true}
-use Rattle.bytes.specs.Bytes.{index_of, slice}
+use Rattle.text.specs.Bytes.{index_of, slice}
 use Rattle.text_lines.specs.declared.input.Input.{Input}
 use Rattle.text_lines.specs.Inputs.{Filled, Found, line_to, no_line, last_of}
 

@@ -6,7 +6,7 @@ ghost use Rattle.text_lines.specs.Inputs.{Filled, Found, line_to, no_line, last_
 ghost use Rattle.io.specs.Counts.{IsPrefixLen};
 
 // The bytes of the buffer that are not read yet lie from `start` to `end`.
-#[derive(Drop)]
+#[derive(Clone, Copy)]
 pub struct Input {
     pub start: usize,
     pub end: usize,
@@ -16,7 +16,7 @@ pub struct Input {
 
 // The next line, from `start` to `end` of the buffer, and the input after it. Where there is none
 // the input has failed, or else it has ended, or else the line is longer than the buffer.
-#[derive(Drop)]
+#[derive(Clone, Copy)]
 pub struct Line {
     pub some: bool,
     pub start: usize,

@@ -36,7 +36,7 @@ pub fn put_number(out: &mut [u8], at: usize, n: u64) -> usize
 }
 
 // How far a lent buffer holds what is to be written out, and whether a write has failed.
-#[derive(Drop)]
+#[derive(Clone, Copy)]
 pub struct Output {
     pub at: usize,
     pub failed: bool,
