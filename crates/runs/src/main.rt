@@ -6,7 +6,7 @@ mod faults;
 mod lines;
 mod steps;
 
-use libc::{STDIN_FILENO, STDOUT_FILENO};
+use libc::STDIN_FILENO;
 use text_lines::Input;
 
 fn main() {
@@ -14,34 +14,34 @@ fn main() {
     let mut out = io::large_buffer();
     let n = text_source::count();
     if n == 0 {
-        filter(STDIN_FILENO, &mut buf, &mut out);
+        filter(&rt, STDIN_FILENO, &mut buf, &mut out);
     } else {
-        each(n, &mut buf, &mut out);
+        each(&rt, n, &mut buf, &mut out);
     }
 }
 
 // The lists that the arguments name, one after another.
-fn each(n: usize, buf: &mut [u8], out: &mut [u8]) {
+fn each(rt: &(impl Print + Eprint), n: usize, buf: &mut [u8], out: &mut [u8]) {
     let mut i: usize = 0;
     while i < n {
         i += 1;
-        named(i, buf, out);
+        named(rt, i, buf, out);
     }
 }
 
-fn named(i: usize, buf: &mut [u8], out: &mut [u8]) {
+fn named(rt: &(impl Print + Eprint), i: usize, buf: &mut [u8], out: &mut [u8]) {
     if text_source::is_help(i) {
-        help();
+        help(rt);
         return;
     }
     let fd = text_source::open(i);
     if 0 <= fd {
-        filter(fd, buf, out);
+        filter(rt, fd, buf, out);
         text_source::close(fd);
     }
 }
 
-fn help() {
+fn help(rt: &impl Print) {
     io::write_all(
         STDOUT_FILENO,
         b"runs [FILE ..]: reads a list of calls on a link, from standard input where no file is named,
@@ -63,22 +63,22 @@ docs/RUNS.md has every name, docs/EVENTS.md what each event means, docs/SUPPORT.
     );
 }
 
-fn filter(fd: i32, buf: &mut [u8], out: &mut [u8]) {
+fn filter(rt: &(impl Print + Eprint), fd: i32, buf: &mut [u8], out: &mut [u8]) {
     let mut input = Input::new();
-    let mut step = steps::begin(out);
+    let mut step = steps::begin(rt, out);
     let mut number: u64 = 0;
     while number < time::END {
         number += 1;
-        step = steps::ready(step, out, input.waits(buf));
+        step = steps::ready(rt, step, out, input.waits(buf));
         let line = input.line(fd, buf);
         input = line.input;
         if !line.some {
-            steps::end(out, step, number, input);
+            steps::end(rt, out, step, number, input);
             return;
         }
         let start = line.start;
         let end = line.end;
-        step = lines::respond(&buf[start..end], out, step, number);
+        step = lines::respond(rt, &buf[start..end], out, step, number);
         if step.stop {
             return;
         }

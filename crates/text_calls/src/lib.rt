@@ -16,7 +16,7 @@ use text_args::ARGS;
 pub mod place;
 
 // A link: its state, and what stays the same over its calls.
-#[derive(Drop)]
+#[derive(Clone, Copy)]
 pub struct Link {
     pub state: State,
     pub cfg: Config,
