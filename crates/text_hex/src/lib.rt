@@ -1,6 +1,7 @@
 // Buffers in hex: two digits a byte, and `-` for an empty buffer. No public function has a
 // `requires`.
 #![tactic(auto)]
+
 ghost use Rattle.std.specs.Prelude.{◌≡◌, ◌≤◌, length};
 
 use text::Scan;
