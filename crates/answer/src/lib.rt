@@ -1,6 +1,7 @@
 // What a call answers, and the two ways out of one: sent back by a number, or finished. Every call
 // that hands a state back ends here.
 #![tactic(auto)]
+
 ghost use Rattle.std.specs.Prelude.{◌≡◌};
 ghost use Rattle.answer.specs.Answers.{back_with, taken_with};
 
@@ -10,7 +11,7 @@ use state::State;
 // The refusal's number, 0 where there is none, with the check's place in 1; the state; how many
 // events the log has; and how many items the passes of a poll listed.
 #[repr(C)]
-#[derive(Drop)]
+#[derive(Clone, Copy)]
 pub struct Answer {
     pub number: u8,
     pub place: u8,

@@ -2,7 +2,7 @@
 -- and each number is given exactly where its sentence is the first to hold.
 use Rattle.std.specs.Prelude.{ℕ, Bool, ◌↔◌, ◌≡◌, [], ◌∷◌, ℤ}
 use Rattle.std.proofs.Common.{inl, inr, arith}
-use Rattle.std.proofs.Math.Logic.{Iff·trans}
+use Rattle.std.proofs.Math.Logic.Iff
 use Rattle.std.proofs.Math.Path.{refl, ap}
 use Rattle.time.specs.Time.{none}
 use Rattle.settings.specs.declared.Config.{Config}
@@ -44,7 +44,7 @@ module _ (cfg : Config) (p : Profile) (spread : ℤ) where
       let l = by_tests (before_open cfg p spread) blank_state o (λ x. Opening x (first (by refused_draw (spread_bad cfg.jitter spread) ∷ [])).number cfg p) refl refl (λ z. open_turn.place.none (λ e. omega arith)) open_turn in
       record {
         accepted =
-            Iff·trans (and_then (l.later 0 (inl refl)) (alone-fails (reads_spread cfg.jitter spread) 7 (omega arith)))
+            Iff.trans (and_then (l.later 0 (inl refl)) (alone-fails (reads_spread cfg.jitter spread) 7 (omega arith)))
             (λ x. record { given = x.0; drawn = x.1 }, λ o. (o.given, o.drawn));
         given = l.given;
         draw = and_then (l.later 7 (inr (omega arith))) (alone-holds (reads_spread cfg.jitter spread) 7 (omega arith));

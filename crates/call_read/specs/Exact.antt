@@ -2,7 +2,7 @@
 -- tests that concern it pass, and each number is given exactly where its sentence is the first to hold.
 use Rattle.std.specs.Prelude.{ℕ, ◌↔◌, ◌≡◌}
 use Rattle.std.proofs.Common.{inl, sym}
-use Rattle.std.proofs.Math.Logic.{Iff·trans}
+use Rattle.std.proofs.Math.Logic.Iff
 use Rattle.std.proofs.Math.Path.{refl, ap, subst}
 use mathlib.Core.List.{[]}
 use borrow.Author.Tests.{eq-eqb, ne_eqb}
@@ -46,7 +46,7 @@ module _ (s : State) (cfg : Config) (p : Profile) where
   read_turn = linked s cfg p [] refl refl
 
   read_accepted : ((before_link s cfg p).number ≡ 0) ↔ LinkOk s cfg p
-  read_accepted = Iff·trans (read_turn.later 0 (inl refl)) (λ x. x.0, λ o. (o, refl))
+  read_accepted = Iff.trans (read_turn.later 0 (inl refl)) (λ x. x.0, λ o. (o, refl))
 
   pub wake_exact : WakeExact s cfg p (woke_of s cfg p)
   unfolding woke_of

@@ -12,7 +12,7 @@ use time::When;
 
 // What `wake` answers.
 #[repr(C)]
-#[derive(Drop)]
+#[derive(Clone, Copy)]
 pub struct Woke {
     pub number: u8,
     pub place: u8,
@@ -22,7 +22,7 @@ pub struct Woke {
 // The link line: current tag, cycle kind, wake and quiet time. Quiet is the time since the current
 // epoch was heard or started, whichever is later; frames under the drained epoch do not count.
 #[repr(C)]
-#[derive(Drop)]
+#[derive(Clone, Copy)]
 pub struct Shown {
     pub number: u8,
     pub place: u8,

@@ -2,7 +2,7 @@
 -- number exactly where its sentence is the first to hold.
 use Rattle.std.specs.Prelude.{ℕ, ◌≤◌, ◌<◌, true, false, not, ◌↔◌, ◌⊎◌, ◌≡◌}
 use Rattle.std.proofs.Common.{inl, inr, arith}
-use Rattle.std.proofs.Math.Logic.{Iff·trans}
+use Rattle.std.proofs.Math.Logic.Iff
 use Rattle.std.proofs.Math.Path.{refl, ap}
 use mathlib.Core.List.{[], ◌∷◌}
 use Rattle.settings.specs.declared.Config.{Config}
@@ -67,7 +67,7 @@ module _ (s : State) (cfg : Config) (p : Profile) (now : ℕ) where
       let l = by_tests (reply_refused s cfg p now) s o (λ x. Linked x (first (by refused_no_start (not (called_for s cfg p now)) ∷ [])).number s cfg p) refl refl (λ z. in_turn.place.none (λ e. omega arith)) in_turn in
       record {
         accepted =
-            Iff·trans (and_then (l.later 0 (inl refl)) (alone-fails (reads_called s cfg p now) 10 (omega arith)))
+            Iff.trans (and_then (l.later 0 (inl refl)) (alone-fails (reads_called s cfg p now) 10 (omega arith)))
             (λ x. record { link = x.0; called = x.1 }, λ o. (o.link, o.called));
         given = l.given;
         state = l.state;

@@ -20,7 +20,7 @@ use time::When;
 // Whether the start opened an attempt, and the numbers of its handshake, its first message, its
 // transport and its lease or none.
 #[repr(C)]
-#[derive(Drop)]
+#[derive(Clone, Copy)]
 pub struct StartReply {
     pub opened: bool,
     pub hs: u64,

@@ -3,7 +3,7 @@
 use Rattle.std.specs.Prelude.{ℕ, ◌≤◌, ◌<◌, Bool, true, false, ◌↔◌, ◌⊎◌, ◌≡◌}
 use Rattle.std.proofs.lemmas.Bool.{false≢true}
 use Rattle.std.proofs.Common.{inl, inr, ⊎_elim, sym, ◌∙◌, arith}
-use Rattle.std.proofs.Math.Logic.{Iff·trans}
+use Rattle.std.proofs.Math.Logic.Iff
 use Rattle.std.proofs.Math.Path.{refl, ap}
 use mathlib.Core.List.{List, [], ◌∷◌}
 use Rattle.numbers.specs.Numbers.{refused_sent}
@@ -69,7 +69,7 @@ module _ (s : State) (count : ℕ) where
       let l = by_tests r s o (λ x. Standing x.number (first eleven).number s × (x.place ≡ 0)) refl refl (λ z. refl) (told_turn, refl) in
       record {
         accepted =
-            Iff·trans (and_then (l.0.later 0 (inl refl)) (alone-fails (reads_held s count) 11 (omega arith)))
+            Iff.trans (and_then (l.0.later 0 (inl refl)) (alone-fails (reads_held s count) 11 (omega arith)))
             (λ x. record { state = x.0; held = x.1 }, λ o. (o.state, o.held));
         state = l.0.state;
         below = and_then (l.0.later 11 (inr (omega arith))) (alone-holds (reads_held s count) 11 (omega arith));

@@ -1,6 +1,6 @@
 -- What the operations make of the list of candidates.
 use Rattle.std.specs.Prelude.{ℕ, zero, suc, ◌≤◌, ◌<◌, ◌+◌, ◌-◌, Bool, ◌||◌, ◌≡◌, leb, eqb, get_or, take, drop}
-use Rattle.std.proofs.Math.Bool.{true, false, or_false, or_assoc}
+use Rattle.std.proofs.Math.Bool.{true, false, or-false, or_assoc}
 use Rattle.std.proofs.Math.Path.{refl, sym, ap, ap₂}
 use Rattle.std.proofs.Common.{◌∙◌, zero-add, add-zero, length-append, ext_get_or}
 use mathlib.Core.List.Sublistᴰ
@@ -309,7 +309,7 @@ reached-sooner w t now = under w.some (leb w.at t) refl
 
 reached-fold : (now : ℕ) (w : When) (l : List ℕ) → reached_of (fold (λ b t. sooner_of b (at t)) w l) now ≡ (reached_of w now || due_in now l)
 unfolding fold due_in
-reached-fold now w [] = sym (or_false (reached_of w now))
+reached-fold now w [] = sym (or-false (reached_of w now))
 reached-fold now w (t ∷ l) =
     reached-fold now (sooner_of w (at t)) l
     ∙ (ap (λ b. b || due_in now l) (reached-sooner w t now) ∙ or_assoc (reached_of w now) (leb t now) (due_in now l))

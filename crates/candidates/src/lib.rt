@@ -3,6 +3,7 @@
 // One array to a field, so that a removal moves numbers and copies no record. Places from `len` on
 // are no part of the state.
 #![tactic(auto)]
+
 ghost use Rattle.std.specs.Prelude.{◌≡◌, [], ◌+◌, ◌≤◌, ◌<◌, length, get_or};
 ghost use Rattle.time.specs.Lists.{kept};
 ghost use Rattle.candidates.specs.Held.{held_of, between, firsts, held_by, without, expired_in, born_after, earliest_of, place_of, chosen, others, choosing, removed_of, younger, kept_after, cleared_of, expire_of};
@@ -11,7 +12,7 @@ ghost use Rattle.candidates.specs.Repeats.{repeated, rises};
 use time::When;
 
 #[repr(C)]
-#[derive(Drop)]
+#[derive(Clone, Copy)]
 pub struct Candidates {
     pub hs: [u64; 32],
     pub msg1: [u64; 32],
@@ -32,7 +33,7 @@ pub struct Candidates {
 }
 
 // The candidates left, and whether one went.
-#[derive(Drop)]
+#[derive(Clone, Copy)]
 pub struct Expired {
     pub cands: Candidates,
     pub gone: bool,

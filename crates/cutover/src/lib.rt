@@ -19,7 +19,7 @@ use state::{Bit, Given, Memory, State};
 use time::When;
 
 // A pending epoch taken out of its cycle for a cutover.
-#[derive(Drop)]
+#[derive(Clone, Copy)]
 pub struct Pend {
     pub ep: Epoch,
     pub restart: bool,
@@ -27,7 +27,7 @@ pub struct Pend {
 }
 
 // What a cutover leaves: the state, and how long the log is.
-#[derive(Drop)]
+#[derive(Clone, Copy)]
 pub struct Cut {
     pub state: State,
     pub len: usize,

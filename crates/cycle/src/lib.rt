@@ -3,6 +3,7 @@
 // The kind is a number of `numbers::cycle`; any other counts as idle. Only the record of the kind's own
 // case is part of the state.
 #![tactic(auto)]
+
 ghost use Rattle.std.specs.Prelude.{◌≡◌};
 ghost use Rattle.cycle.specs.Held.{is_own, is_peers};
 
@@ -12,7 +13,7 @@ use time::When;
 
 // An own attempt in flight.
 #[repr(C)]
-#[derive(Drop)]
+#[derive(Clone, Copy)]
 pub struct Attempt {
     pub hs: u64,
     // The first message, resent byte for byte.
@@ -27,7 +28,7 @@ pub struct Attempt {
 
 // An own attempt that completed. The wait is a number of `numbers::wait`; any other counts as a delay.
 #[repr(C)]
-#[derive(Drop)]
+#[derive(Clone, Copy)]
 pub struct PendI {
     pub ep: Epoch,
     pub wait: u8,
@@ -46,7 +47,7 @@ pub struct PendI {
 
 // A peer attempt that completed, held until the peer's first frame under it.
 #[repr(C)]
-#[derive(Drop)]
+#[derive(Clone, Copy)]
 pub struct PendR {
     pub ep: Epoch,
     pub deadline: u64,
@@ -55,7 +56,7 @@ pub struct PendR {
 }
 
 #[repr(C)]
-#[derive(Drop)]
+#[derive(Clone, Copy)]
 pub struct Cycle {
     pub kind: u8,
     pub init: Attempt,

@@ -4,6 +4,7 @@
 // `Option` is a flag beside the value; a two-valued enum is a flag. What stands behind a flag that
 // is off is no part of the state.
 #![tactic(auto)]
+
 ghost use Rattle.std.specs.Prelude.{◌≡◌};
 ghost use Rattle.epoch.specs.Held.{is_tag};
 
@@ -12,7 +13,7 @@ use time::When;
 
 // An index that may be absent: 32 bits, as the source's.
 #[repr(C)]
-#[derive(Drop)]
+#[derive(Clone, Copy)]
 pub struct Index {
     pub some: bool,
     pub index: u32,
@@ -21,7 +22,7 @@ pub struct Index {
 // The session indices of an epoch: this node's lease (its index), the peer's, and the transport
 // that the binding was made on.
 #[repr(C)]
-#[derive(Drop)]
+#[derive(Clone, Copy)]
 pub struct Ids {
     pub lease: Index,
     pub theirs: Index,
@@ -30,7 +31,7 @@ pub struct Ids {
 
 // A retained final message and its resend ladder, if there is one.
 #[repr(C)]
-#[derive(Drop)]
+#[derive(Clone, Copy)]
 pub struct Final {
     pub some: bool,
     pub msg: u64,
@@ -39,14 +40,14 @@ pub struct Final {
 
 // A ladder that may be absent.
 #[repr(C)]
-#[derive(Drop)]
+#[derive(Clone, Copy)]
 pub struct MayLadder {
     pub some: bool,
     pub ladder: Ladder,
 }
 
 #[repr(C)]
-#[derive(Drop)]
+#[derive(Clone, Copy)]
 pub struct Epoch {
     pub tag: u64,
     pub session: u64,
@@ -81,7 +82,7 @@ pub struct Epoch {
 
 // The current epoch, if there is one.
 #[repr(C)]
-#[derive(Drop)]
+#[derive(Clone, Copy)]
 pub struct MayEpoch {
     pub some: bool,
     pub ep: Epoch,
@@ -89,7 +90,7 @@ pub struct MayEpoch {
 
 // The previous epoch, kept after a cutover, if there is one.
 #[repr(C)]
-#[derive(Drop)]
+#[derive(Clone, Copy)]
 pub struct Drain {
     pub some: bool,
     pub ep: Epoch,

@@ -5,6 +5,7 @@
 // crate `numbers` the number of each enum's case. The caller keeps the length: each function
 // takes it and answers the new one.
 #![tactic(auto)]
+
 ghost use Rattle.std.specs.Prelude.{◌≡◌, [], ◌∷◌, ◌<◌};
 ghost use Rattle.numbers.specs.Numbers.{bit as bit_of};
 ghost use Rattle.events.specs.Events.{Send, Prompt, Deliver, Bind, Unbind, Delegate, Revoke, Release, Installed, Retired, Reverted, PeerRestarted, Rekeyed, Reject, Abandoned, Teardown, Mark, Start, Ended};
@@ -16,7 +17,7 @@ use numbers::event;
 use time::When;
 
 // The words of one place: an event's number and its fields, then zeros.
-#[derive(Drop)]
+#[derive(Clone, Copy)]
 pub struct Words {
     pub kind: u64,
     pub a: u64,

@@ -3,7 +3,7 @@
 use Rattle.std.specs.Prelude.{ℕ, Bool, ◌↔◌, ◌≡◌, List, [], ◌∷◌, ℤ}
 use Rattle.std.proofs.Math.Bool.{true, false}
 use Rattle.std.proofs.Common.{inl, inr, arith}
-use Rattle.std.proofs.Math.Logic.{Iff·trans}
+use Rattle.std.proofs.Math.Logic.Iff
 use Rattle.std.proofs.Math.Path.{refl}
 use Rattle.time.specs.Pick.{pick}
 use Rattle.settings.specs.declared.Config.{Config}
@@ -110,7 +110,7 @@ frame-exact s cfg profile time workers spread p body source target =
     let l = by_tests r s o (λ x. Linked x (first (own s cfg profile spread p.slot p.tag)).number s cfg profile) refl refl (λ z. t.place.none (λ e. omega arith)) t in
     record {
       accepted =
-          Iff·trans (and_then (l.later 0 (inl refl)) (is_none s cfg profile spread p.slot p.tag)) (
+          Iff.trans (and_then (l.later 0 (inl refl)) (is_none s cfg profile spread p.slot p.tag)) (
             λ x. record { link = x.0; drawn = x.1.0; held = x.1.1.0; tag = x.1.1.1.0 },
             λ o. (o.link, (o.drawn, (o.held, (o.tag, refl)))),
           );
@@ -118,10 +118,10 @@ frame-exact s cfg profile time workers spread p body source target =
       state = l.state;
       draw = and_then (l.later 7 (inr (omega arith))) (is_seven s cfg profile spread p.slot p.tag);
       slot =
-          Iff·trans (and_then (l.later 8 (inr (omega arith))) (is-eight s cfg profile spread p.slot p.tag))
+          Iff.trans (and_then (l.later 8 (inr (omega arith))) (is-eight s cfg profile spread p.slot p.tag))
           (λ x. (x.0, x.1.0, x.1.1), λ x. (x.0, (x.1, x.2)));
       tag =
-          Iff·trans (and_then (l.later 9 (inr (omega arith))) (is-nine s cfg profile spread p.slot p.tag))
+          Iff.trans (and_then (l.later 9 (inr (omega arith))) (is-nine s cfg profile spread p.slot p.tag))
           (λ x. (x.0, x.1.0, x.1.1.0, x.1.1.1), λ x. (x.0, (x.1, (x.2, x.3))));
       place = l.place;
       back = λ h. let b = frame-back-leaves s cfg profile time workers spread p body source target h in (b.0, b.1.0, b.1.1);

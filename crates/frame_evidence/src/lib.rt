@@ -14,7 +14,7 @@ use state::{Bit, Memory};
 use time::When;
 
 // What hearing leaves of an epoch, and how long the log is.
-#[derive(Drop)]
+#[derive(Clone, Copy)]
 pub struct Prompted {
     pub ep: Epoch,
     pub len: usize,

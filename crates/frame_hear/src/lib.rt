@@ -24,7 +24,7 @@ pub fn given(cfg: Config, profile: Profile, time: u64, workers: bool) -> Given
 }
 
 // What hearing leaves: the state, and how long the log is.
-#[derive(Drop)]
+#[derive(Clone, Copy)]
 pub struct Heard {
     pub state: State,
     pub len: usize,

@@ -11,7 +11,7 @@ use time::When;
 
 // A frame that authenticated under one held epoch, by its slot (`numbers::slot`), and passed its window.
 #[repr(C)]
-#[derive(Drop)]
+#[derive(Clone, Copy)]
 pub struct FrameProof {
     pub tag: u64,
     pub slot: u8,
@@ -23,7 +23,7 @@ pub struct FrameProof {
 }
 
 // What a frame leaves: the state, and how long the log is.
-#[derive(Drop)]
+#[derive(Clone, Copy)]
 pub struct Framed {
     pub state: State,
     pub len: usize,

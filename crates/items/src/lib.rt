@@ -4,6 +4,7 @@
 // tag or a sequence number. A second pair of arrays holds the kinds and keys that earlier passes
 // listed.
 #![tactic(auto)]
+
 ghost use Rattle.std.specs.Prelude.{◌≡◌, ◌≤◌, ◌<◌, length};
 ghost use Rattle.time.specs.Time.{least};
 ghost use Rattle.items.specs.Items.{item, before, names, listed_in};

@@ -3,6 +3,7 @@
 // A schedule is a short list of offsets from an origin. A ladder is a schedule anchored at an
 // instant, with a cursor at the next rung. A late poll takes every overdue rung at once.
 #![tactic(auto)]
+
 ghost use Rattle.std.specs.Prelude.{◌≡◌, Bool, ◌<◌, ◌-◌, ◌^◌};
 ghost use Rattle.time.specs.Pick.{pick};
 ghost use Rattle.time.specs.Lists.{fold};
@@ -23,7 +24,7 @@ pub const MAX_COUNT: u64 = MAX_RUNGS as u64;
 
 // Offsets from an origin, in milliseconds, and what each rung carries.
 #[repr(C)]
-#[derive(Drop)]
+#[derive(Clone, Copy)]
 pub struct Schedule {
     pub at: [u64; MAX_RUNGS],
     // Bit i is set where rung i is a keepalive and nothing else. The map is wider than the rungs
@@ -33,7 +34,7 @@ pub struct Schedule {
 }
 
 // A schedule with the number of rungs that were asked for and are not in it, up to 255.
-#[derive(Drop)]
+#[derive(Clone, Copy)]
 pub struct Made {
     pub sched: Schedule,
     pub dropped: u8,
@@ -41,7 +42,7 @@ pub struct Made {
 
 // A schedule anchored at an instant, with a cursor at the next rung.
 #[repr(C)]
-#[derive(Drop)]
+#[derive(Clone, Copy)]
 pub struct Ladder {
     pub origin: u64,
     pub sched: Schedule,
@@ -49,21 +50,21 @@ pub struct Ladder {
 }
 
 // A ladder, and the instant of its next rung: absent when every rung is taken.
-#[derive(Drop)]
+#[derive(Clone, Copy)]
 pub struct NextAt {
     pub ladder: Ladder,
     pub at: When,
 }
 
 // A ladder, and whether a rung is due.
-#[derive(Drop)]
+#[derive(Clone, Copy)]
 pub struct IsDue {
     pub ladder: Ladder,
     pub due: bool,
 }
 
 // A moved ladder, and what was taken from it.
-#[derive(Drop)]
+#[derive(Clone, Copy)]
 pub struct Took {
     pub ladder: Ladder,
     // Some rung was due.
@@ -79,7 +80,7 @@ pub struct Took {
 }
 
 // What the rungs taken so far tell, with the cursor after them.
-#[derive(Drop)]
+#[derive(Clone, Copy)]
 pub struct Taking {
     pub next: u8,
     pub any: bool,

@@ -1,6 +1,7 @@
 // A ladder lent for change: one thin call takes its due rungs, and its next index moves in place
 // over the by-value `take` (ladder.rs, `take`).
 #![tactic(auto)]
+
 ghost use Rattle.std.specs.Prelude.{◌≡◌};
 ghost use Rattle.ladder_lent.specs.Lent.{next_after, taken_of, moved_to};
 
@@ -8,7 +9,7 @@ use ladder::Ladder;
 
 // What was taken: whether some rung was due, how many were, whether one was no keepalive, the offset of
 // the last one, and whether none is left.
-#[derive(Drop)]
+#[derive(Clone, Copy)]
 pub struct Taken {
     pub any: bool,
     pub taken: u64,

@@ -4,7 +4,7 @@ use Rattle.std.specs.Prelude.{ℕ, ◌≤◌, ◌<◌, Bool, not, ◌&&◌, ◌�
 use Rattle.std.proofs.Math.Bool.{true, false}
 use Rattle.std.proofs.lemmas.Bool.{false≢true, eqb-false, not-false}
 use Rattle.std.proofs.Common.{inl, inr, ⊎_elim, sym, ◌∙◌, arith, ltb-true, eqb-true}
-use Rattle.std.proofs.Math.Logic.{Iff·trans}
+use Rattle.std.proofs.Math.Logic.Iff
 use Rattle.std.proofs.Math.Path.{refl, ap}
 use mathlib.Core.List.{List, [], ◌∷◌, ◌++◌}
 use Rattle.time.specs.Pick.{pick, of_choice}
@@ -144,14 +144,14 @@ module _ (cfg : Config) (p : Profile) where
   pub given-from : (n : ℕ) → ((m : ℕ) → 0 < m → m ≤ 2 → (n ≡ m) ↔ (given_number ≡ m)) → GivenNumbers n cfg p
   given-from n f =
       record {
-        settings = Iff·trans (f 1 (omega arith) (omega arith)) given-numbers.settings;
-        profile = Iff·trans (f 2 (omega arith) (omega arith)) given-numbers.profile;
+        settings = Iff.trans (f 1 (omega arith) (omega arith)) given-numbers.settings;
+        profile = Iff.trans (f 2 (omega arith) (omega arith)) given-numbers.profile;
       }
 
   pub given-none : (given_number ≡ 0) ↔ GivenOk cfg p
   given-none =
       rw one-two
-      (Iff·trans (and_then (past (reads_settings cfg) 1 two 0 (λ e. omega arith)) (past (reads_profile p) 2 0 0 (λ e. omega arith)))
+      (Iff.trans (and_then (past (reads_settings cfg) 1 two 0 (λ e. omega arith)) (past (reads_profile p) 2 0 0 (λ e. omega arith)))
       (λ x. record { settings = x.0; profile = x.1.0 }, λ o. (o.settings, (o.profile, refl))))
 
 -- ---- 3 to 6
@@ -223,7 +223,7 @@ module _ (s : State) where
 
   pub state-none : (state_back s ≡ 0) ↔ StateOk s
   state-none =
-      Iff·trans
+      Iff.trans
       (and_then (after-three 0 (λ e. omega arith))
       (and_then (after-four 0 (λ e. omega arith))
       (and_then (after-five 0 (λ e. omega arith)) (past (reads_ladders s) 6 0 0 (λ e. omega arith))))) (
@@ -240,10 +240,10 @@ module _ (s : State) where
   state-numbers n f =
       record {
         candidates = and_then (f 3 (omega arith) (omega arith)) is-three;
-        current = Iff·trans (and_then (f 4 (omega arith) (omega arith)) is-four) (λ x. (x.0, x.1.0, x.1.1), λ x. (x.0, (x.1, x.2)));
-        numbers = Iff·trans (and_then (f 5 (omega arith) (omega arith)) is-five) (λ x. (x.0, x.1.0, x.1.1.0, x.1.1.1), λ x. (x.0, (x.1, (x.2, x.3))));
+        current = Iff.trans (and_then (f 4 (omega arith) (omega arith)) is-four) (λ x. (x.0, x.1.0, x.1.1), λ x. (x.0, (x.1, x.2)));
+        numbers = Iff.trans (and_then (f 5 (omega arith) (omega arith)) is-five) (λ x. (x.0, x.1.0, x.1.1.0, x.1.1.1), λ x. (x.0, (x.1, (x.2, x.3))));
         ladders =
-            Iff·trans (and_then (f 6 (omega arith) (omega arith)) is-six)
+            Iff.trans (and_then (f 6 (omega arith) (omega arith)) is-six)
             (λ x. (x.0, x.1.0, x.1.1.0, x.1.1.1.0, x.1.1.1.1), λ x. (x.0, (x.1, (x.2, (x.3, x.4)))));
       }
 
@@ -292,7 +292,7 @@ module _ {b : Bool} {Holds Fails : Type 0} (r : Reads b Holds Fails) (k : ℕ) (
   alone-holds = rw alone (here r k 0 z (inl refl))
 
   pub alone-fails : ((first (by k b ∷ [])).number ≡ 0) ↔ Fails
-  alone-fails = rw alone (Iff·trans (past r k 0 0 (λ e. omega arith)) (λ x. x.0, λ f. (f, refl)))
+  alone-fails = rw alone (Iff.trans (past r k 0 0 (λ e. omega arith)) (λ x. x.0, λ f. (f, refl)))
 
 -- ---- the place
 
@@ -352,7 +352,7 @@ module _ (s : State) (cfg : Config) (p : Profile) (l : List Test) (up : rising 6
 
   past-given : (m : ℕ) → Above 2 m → (whole ≡ m) ↔ (GivenOk cfg p × (or_else (state_back s) own ≡ m))
   past-given m h =
-      Iff·trans (late (given_number cfg p) (or_else (state_back s) own) 2 (given-low cfg p) inner_high m h)
+      Iff.trans (late (given_number cfg p) (or_else (state_back s) own) 2 (given-low cfg p) inner_high m h)
       (λ x. ((given-none cfg p).0 x.0, x.1), λ x. ((given-none cfg p).1 x.0, x.1))
 
   of_state : (m : ℕ) → 2 < m → m ≤ 6 → (whole ≡ m) ↔ (GivenOk cfg p × (state_back s ≡ m))
@@ -361,7 +361,7 @@ module _ (s : State) (cfg : Config) (p : Profile) (l : List Test) (up : rising 6
 
   of_rest : (m : ℕ) → Above 6 m → (whole ≡ m) ↔ (LinkOk s cfg p × (own ≡ m))
   of_rest m h =
-      Iff·trans (and_then (past-given m (⊎_elim (λ e. inl e) (λ k. inr (omega arith)) h)) (late (state_back s) own 6 (state-low s) (first_above l 6 up) m h)) (
+      Iff.trans (and_then (past-given m (⊎_elim (λ e. inl e) (λ k. inr (omega arith)) h)) (late (state_back s) own 6 (state-low s) (first_above l 6 up) m h)) (
         λ x. (record { given = x.0; state = (state-none s).0 x.1.0 }, x.1.1),
         λ x. (x.0.given, ((state-none s).1 x.0.state, x.1)),
       )
@@ -397,7 +397,7 @@ unfolding given_tests given_number rising any_place any_of
 opening cfg p l up bare =
     record {
       given = given-from cfg p _ (λ m z h. rw layers (early (given_number cfg p) (first l).number 2 (given-low cfg p) (first_above l 2 up) m z h));
-      later = λ m h. rw layers (Iff·trans (late (given_number cfg p) (first l).number 2 (given-low cfg p) (first_above l 2 up) m h) (λ x. ((given-none cfg p).0 x.0, x.1), λ x. ((given-none cfg p).1 x.0, x.1)));
+      later = λ m h. rw layers (Iff.trans (late (given_number cfg p) (first l).number 2 (given-low cfg p) (first_above l 2 up) m h) (λ x. ((given-none cfg p).0 x.0, x.1), λ x. ((given-none cfg p).1 x.0, x.1)));
       place = placed cfg (by 2 (profile_bad p) ∷ l) up bare;
     }
   where
@@ -415,8 +415,8 @@ pub standing : (s : State) (l : List Test) → rising 6 l ≡ true → Standing 
 unfolding state_tests state_back rising
 standing s l up =
     record {
-      state = state-numbers s _ (λ m h k. rw layers (Iff·trans (early (state_back s) (first l).number 6 (state-low s) (first_above l 6 up) m (omega arith) k) (λ e. (tt, e), λ x. x.1)));
-      later = λ m h. rw layers (Iff·trans (late (state_back s) (first l).number 6 (state-low s) (first_above l 6 up) m h) (λ x. ((state-none s).0 x.0, x.1), λ x. ((state-none s).1 x.0, x.1)));
+      state = state-numbers s _ (λ m h k. rw layers (Iff.trans (early (state_back s) (first l).number 6 (state-low s) (first_above l 6 up) m (omega arith) k) (λ e. (tt, e), λ x. x.1)));
+      later = λ m h. rw layers (Iff.trans (late (state_back s) (first l).number 6 (state-low s) (first_above l 6 up) m h) (λ x. ((state-none s).0 x.0, x.1), λ x. ((state-none s).1 x.0, x.1)));
     }
   where
     layers : (first (state_tests s ++ l)).number ≡ or_else (state_back s) (first l).number

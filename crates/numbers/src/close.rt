@@ -4,7 +4,7 @@ ghost use Rattle.numbers.specs.Numbers.{closes};
 ghost use Rattle.numbers.specs.Reason.{close_no};
 
 // Why the shell closed a machine.
-#[derive(Drop)]
+#[derive(Clone, Copy)]
 pub enum Close {
     // The peer restarted, seen at node level.
     Restart,

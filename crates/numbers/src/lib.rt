@@ -1,6 +1,7 @@
 // Every number that stands for something, by name: a module a list, which `all` hands back in order.
 // specs/Numbers.antt has the same names for definitions. The lists of reason.rs are enums too.
 #![tactic(auto)]
+
 pub mod abandon;
 pub mod attribution;
 pub mod close;

@@ -6,7 +6,7 @@ ghost use Rattle.numbers.specs.Reason.{reason_no, attribution_of, reachable_of};
 use crate::attribution::Attribution;
 
 // Why an input changed nothing, or, where its row says so, only the candidate list or the replay record.
-#[derive(Drop)]
+#[derive(Clone, Copy)]
 pub enum Reason {
     // An IK msg1 carried a startup epoch other than the peer's.
     EpochChanged,

@@ -4,6 +4,7 @@
 // `Params::backoff`). Every function takes any settings; those that the checks accept give the
 // Rust's values.
 #![tactic(auto)]
+
 ghost use Rattle.std.specs.Prelude.{◌≡◌, ◌-◌};
 ghost use Rattle.time.specs.Time.{backoff_of};
 ghost use Rattle.params.specs.Params.{value_or, last_offset, endless, probing, confirm_of, span_of, rung_of, gap_of, msg1_span, budget_of, first_made, fin_made, probes_made, revert_made, elicit_made, delayed_made, grace_of, with_hold_of, lengths_of, schedules_of, new_of};
@@ -15,14 +16,14 @@ use time::When;
 // Resends that were asked for and are in no schedule, since they fall at or after their deadline
 // or find no room.
 #[repr(C)]
-#[derive(Drop)]
+#[derive(Clone, Copy)]
 pub struct Inert {
     pub first: u8,
     pub probes: u8,
 }
 
 // Settings and every value derived from them.
-#[derive(Drop)]
+#[derive(Clone, Copy)]
 pub struct Params {
     pub cfg: Config,
     // The confirmation window: the handshake timeout plus one check.
@@ -54,14 +55,14 @@ pub struct Params {
 
 // The place of the first check that refuses the settings, 0 where they are accepted, and the
 // derived values, which mean something only then.
-#[derive(Drop)]
+#[derive(Clone, Copy)]
 pub struct NewParams {
     pub place: u8,
     pub params: Params,
 }
 
 // The derived durations.
-#[derive(Drop)]
+#[derive(Clone, Copy)]
 pub struct Lengths {
     pub confirm: u64,
     pub span: When,
@@ -72,7 +73,7 @@ pub struct Lengths {
 }
 
 // The derived schedules.
-#[derive(Drop)]
+#[derive(Clone, Copy)]
 pub struct Schedules {
     pub first: Made,
     pub fin: Made,

@@ -2,7 +2,7 @@
 -- where its sentence is the first to hold.
 use Rattle.std.specs.Prelude.{ℕ, ◌≤◌, ◌<◌, Bool, ◌||◌, ◌↔◌, ◌⊎◌, ◌≡◌, [], ◌∷◌, ℤ}
 use Rattle.std.proofs.Common.{inl, inr, arith}
-use Rattle.std.proofs.Math.Logic.{Iff·trans}
+use Rattle.std.proofs.Math.Logic.Iff
 use Rattle.std.proofs.Math.Path.{refl, ap}
 use Rattle.settings.specs.declared.Config.{Config}
 use Rattle.numbers.specs.Numbers.{refused_draw}
@@ -54,7 +54,7 @@ module _ (s : State) (cfg : Config) (p : Profile) (spread : ℤ) (extra : ℕ) w
       let l = by_tests (before_poll s cfg p spread extra) s o (λ x. Linked x (first (by refused_draw out_of_range ∷ [])).number s cfg p) refl refl (λ z. in_turn.place.none (λ e. omega arith)) in_turn in
       record {
         accepted =
-            Iff·trans (and_then (l.later 0 (inl refl)) (alone-fails reads_draws 7 (omega arith)))
+            Iff.trans (and_then (l.later 0 (inl refl)) (alone-fails reads_draws 7 (omega arith)))
             (λ x. record { link = x.0; drawn = x.1.0; more = x.1.1 }, λ o. (o.link, (o.drawn, o.more)));
         given = l.given;
         state = l.state;

@@ -13,7 +13,7 @@ use settings::Config;
 use state::{Given, State};
 
 // How long the log is after the teardown tests, and whether the link ended.
-#[derive(Drop)]
+#[derive(Clone, Copy)]
 pub struct Tested {
     pub len: usize,
     pub ended: bool,

@@ -12,7 +12,7 @@ use cycle::Cycle;
 use state::{Given, State};
 
 // What an item leaves: the state, how long the log is, and whether the link ends.
-#[derive(Drop)]
+#[derive(Clone, Copy)]
 pub struct Ran {
     pub state: State,
     pub len: usize,

@@ -15,14 +15,14 @@ use settings::Config;
 use state::Memory;
 use time::When;
 
-#[derive(Drop)]
+#[derive(Clone, Copy)]
 pub struct Cycled {
     pub cycle: Cycle,
     pub len: usize,
 }
 
 // With whether the link ends.
-#[derive(Drop)]
+#[derive(Clone, Copy)]
 pub struct Failed {
     pub cycle: Cycle,
     pub mem: Memory,

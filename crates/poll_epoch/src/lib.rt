@@ -10,14 +10,14 @@ use ladder::Took;
 use time::When;
 
 // What a row leaves: its part of the state, and how long the log is.
-#[derive(Drop)]
+#[derive(Clone, Copy)]
 pub struct Drained {
     pub drain: Drain,
     pub len: usize,
 }
 
 // With whether a repair falls due.
-#[derive(Drop)]
+#[derive(Clone, Copy)]
 pub struct Kept {
     pub cur: MayEpoch,
     pub len: usize,

@@ -19,7 +19,7 @@ use state::State;
 use time::When;
 
 // Up to two items of one tag: the instant and the kind of each.
-#[derive(Drop)]
+#[derive(Clone, Copy)]
 pub struct Two {
     pub first: When,
     pub kind: u64,

@@ -8,7 +8,7 @@ use state::{Given, State};
 
 // What the passes leave: the state, how long the log is, whether the link ended, and how many items
 // the passes listed.
-#[derive(Drop)]
+#[derive(Clone, Copy)]
 pub struct Passed {
     pub state: State,
     pub len: usize,

@@ -1,5 +1,6 @@
 // Refusals 1 to 7: what a call tests before it does anything.
 #![tactic(auto)]
+
 ghost use Rattle.std.specs.Prelude.{◌≡◌};
 ghost use Rattle.refusal.specs.Refusal.{profile_bad, is_pending, epochs_bad_of, numbers_bad, ladder_bad, ladders_bad, spread_bad, extra_bad, first, given_tests, state_back, before_open, before_poll, before_frame, before_link, before_told};
 ghost use Rattle.refusal.specs.Standing.{pending_ep, shared_of, tags_bad, standing_bad, either_bad, epoch_bad, held_bad, cycle_bad};
@@ -13,7 +14,7 @@ use time::When;
 
 // The number of the first refusal, 0 where the call is accepted; and in 1 the place of the check.
 #[repr(C)]
-#[derive(Drop)]
+#[derive(Clone, Copy)]
 pub struct Refused {
     pub number: u8,
     pub place: u8,

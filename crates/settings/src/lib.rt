@@ -2,12 +2,13 @@
 //
 // Ported from core/src/proto/rekey/params.rs (`Config` and `Params::check`).
 #![tactic(auto)]
+
 ghost use Rattle.std.specs.Prelude.{◌≡◌, ◌+◌, leb, ltb, take, drop};
 ghost use Rattle.settings.specs.Settings.{fmp as fmp_of, fsp as fsp_of, failing, first_at, place_of};
 
 // The settings of a link. Durations are whole milliseconds.
 #[repr(C)]
-#[derive(Drop)]
+#[derive(Clone, Copy)]
 pub struct Config {
     // The time trigger: rekey this long after the last cutover.
     pub after: u64,

@@ -1,5 +1,6 @@
 // The link's state, and what a call is given beside it (machine.rs).
 #![tactic(auto)]
+
 use candidates::Candidates;
 use cycle::Cycle;
 use epoch::{Drain, MayEpoch};
@@ -8,7 +9,7 @@ use time::When;
 
 // A flag that may be absent.
 #[repr(C)]
-#[derive(Drop)]
+#[derive(Clone, Copy)]
 pub struct Bit {
     pub some: bool,
     pub on: bool,
@@ -16,7 +17,7 @@ pub struct Bit {
 
 // Facts that survive Idle, kept outside the cycle.
 #[repr(C)]
-#[derive(Drop)]
+#[derive(Clone, Copy)]
 pub struct Memory {
     // The peer's startup epoch, eight bytes as one number, low byte first.
     pub peer_epoch: When,
@@ -48,7 +49,7 @@ pub struct Memory {
 }
 
 #[repr(C)]
-#[derive(Drop)]
+#[derive(Clone, Copy)]
 pub struct State {
     pub mem: Memory,
     pub cur: MayEpoch,
@@ -60,7 +61,7 @@ pub struct State {
 // What the profile decides: the number of handshake messages, cutover at proof, the silence
 // trigger, whether this node's address is the smaller, and the shortest plaintext in bytes.
 #[repr(C)]
-#[derive(Drop)]
+#[derive(Clone, Copy)]
 pub struct Profile {
     pub messages: u64,
     pub at_proof: bool,
@@ -73,7 +74,7 @@ pub struct Profile {
 // draw of an abandoned attempt in whole seconds. The spread, the draw of an install or a cutover,
 // is passed by itself: a signed number inside a record is dear to prove.
 #[repr(C)]
-#[derive(Drop)]
+#[derive(Clone, Copy)]
 pub struct Given {
     pub cfg: Config,
     pub profile: Profile,

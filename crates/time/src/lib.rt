@@ -9,7 +9,7 @@ ghost use Rattle.time.specs.Time.{later_of, sum_of, later_by_of, sat_add, sat_mu
 
 // A number that may be absent: an instant, a duration or a number of the caller.
 #[repr(C)]
-#[derive(Drop)]
+#[derive(Clone, Copy)]
 pub struct When {
     pub some: bool,
     pub at: u64,

@@ -12,7 +12,7 @@ offer-waiting-requires : tie.Need-offer-waiting-requires
 offer-waiting-requires c κs =
     let a = c.before.before.before.before.before.before.offer-when.ensures in
     let h = c.before.before.before.before.before.before.before.before.before.before in
-    let m = (held-most h.before.args.t1.cands.len).1 in
+    let m = (held-most h.before.args.s.cands.len).1 in
     (omega (arith, h.held.ensures, m), omega (arith, a.count, h.held.ensures, m))
 
 offer-two-requires : tie.Need-offer-two-requires
@@ -20,7 +20,7 @@ offer-two-requires c κs =
     let w = c.before.before.before.before.before in
     let a = w.before.before.before.before.before.before.before in
     let h = a.before.before.before.before in
-    let m = (held-most h.before.args.t1.cands.len).1 in
+    let m = (held-most h.before.args.s.cands.len).1 in
     omega (arith, w.offer-waiting.ensures.count, a.offer-when.ensures.count, h.held.ensures, m)
 
 offer-two-requires-2 : tie.Need-offer-two-requires-2
@@ -29,7 +29,7 @@ offer-two-requires-2 c κs =
     let w = t.before.before.before.before.before.before in
     let a = w.before.before.before.before.before.before.before in
     let h = a.before.before.before.before in
-    let m = (held-most h.before.args.t1.cands.len).1 in
+    let m = (held-most h.before.args.s.cands.len).1 in
     omega (arith, t.offer-two.ensures.count, w.offer-waiting.ensures.count, a.offer-when.ensures.count, h.held.ensures, m)
 
 returns : tie.Need-returns
@@ -38,7 +38,7 @@ returns c =
     let w = t.before.before.before.before.before.before in
     let a = w.before.before.before.before.before.before.before in
     let h = a.before.before.before.before in
-    let s = h.before.args.t1 in
+    let s = h.before.args.s in
     collected s
     (parts-named s h.held.result t.before.cycle-two.result c.before.current-two.result h.held.ensures t.before.cycle-two.ensures c.before.current-two.ensures)
     (offer-then a.offer-when.ensures (offer-then w.offer-waiting.ensures (offer-then t.offer-two.ensures c.offer-two2.ensures)))

@@ -1,0 +1,14 @@
+use Prim.Native.Nat.{◌-◌}
+use mathlib.Core.Path.{◌≡◌, sym, ◌∙◌}
+use borrow.Author.Rules.{rules}
+use Rattle.candidates.specs.Held.{between}
+use Rattle.candidates.specs.Repeats.{rises, rises_from}
+use Rattle.candidates.specs.Places.{rising-start, rising-on, rising_not, rising-end}
+use Rattle.candidates.proofs.rising.Given as goal
+
+-- Whether the rest rises from place i on is whether all rise.
+abbrev pub invariant-loop-i : goal.invariant-loop-i
+invariant-loop-i l = rises (between 0 l.n l.a) ≡ rises_from l.last (between l.i l.n l.a)
+
+abbrev pub decreases-loop-i : goal.decreases-loop-i
+decreases-loop-i l = l.n - l.i

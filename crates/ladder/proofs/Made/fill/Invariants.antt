@@ -1,0 +1,26 @@
+use borrow.Author.Rules.{rules}
+use native.Mathlib.Omega.{arith}
+use Prim.Native.Nat.{◌≤◌, ◌<◌, ◌-◌, ◌+◌, ◌*◌, ◌/◌}
+use mathlib.Core.Path.{◌≡◌, refl, sym, ◌∙◌, ap}
+use mathlib.Core.List.{◌∷◌, map}
+use mathlib.Core.Logic.{◌⊎◌, inl, inr, ⊎_elim}
+use native.Mathlib.Nat.{sub-zero, le-div_iff_mul-le, le_of_lt}
+use lib.ListN.{length, length-map}
+use Rattle.time.specs.Lists.{fold, range, range-more, length-range}
+use Rattle.time.specs.Laws.{least-le, least-left, least-right, decide}
+use Rattle.ladder.specs.Schedule.{max_rungs, keepalive, keepalives}
+use Rattle.ladder.specs.Laws.{Fresh, fresh-put, put-len, rest-counted}
+use Rattle.ladder.specs.Fill.{put_of, losing}
+use Rattle.ladder.proofs.Made.fill.Given as goal
+
+-- what is put from i on is all that is put; until the room is used up nothing is dropped
+abbrev pub invariant-loop-i : goal.invariant-loop-i
+invariant-loop-i l =
+    (l.i ≤ l.n)
+    × (Fresh l.made
+    × ((l.made.dropped ≡ l.initial.made.dropped)
+    × ((l.made.sched.len ≡ l.initial.made.sched.len + l.i)
+    × (fold (put_of max_rungs) l.initial.made (map (λ k. keepalive (l.last + k * l.gap)) (range 1 l.all)) ≡ fold (put_of max_rungs) l.made (map (λ k. keepalive (l.last + k * l.gap)) (range (l.i + 1) (l.all - l.i)))))))
+
+abbrev pub decreases-loop-i : goal.decreases-loop-i
+decreases-loop-i l = l.n - l.i
