@@ -6,22 +6,22 @@
 mod forms;
 
 use leaves_requests::{Form, ROW};
-use libc::STDIN_FILENO;
+use std::io::Read;
 use text_lines::{Input, Output};
 
-fn main() {
+fn main(rt: HostRuntime) {
     let mut buf = io::large_buffer();
     let mut out = io::large_buffer();
-    filter(&rt, &mut buf, &mut out);
+    filter(&rt, &mut rt.stdin(), &mut buf, &mut out);
 }
 
-fn filter(rt: &(impl Print + Eprint), buf: &mut [u8], out: &mut [u8]) {
+fn filter(rt: &(impl Print + Eprint), from: &mut impl Read, buf: &mut [u8], out: &mut [u8]) {
     let mut input = Input::new();
     let mut o = Output::new();
     let mut number: u64 = 0;
     while number < 18446744073709551615 {
         number += 1;
-        let line = input.line(STDIN_FILENO, buf);
+        let line = input.line(from, buf);
         input = line.input;
         if !line.some {
             text_lines::tell_no_line(rt, number, input);

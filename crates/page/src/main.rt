@@ -4,8 +4,8 @@
 #![tactic(auto)]
 mod rows;
 
-use libc::STDIN_FILENO;
 use rows::Row;
+use std::io::Read;
 use text_lines::{Input, Output};
 
 // The output so far, the row that comes next, and how many were there.
@@ -16,19 +16,19 @@ struct Step {
     count: u64,
 }
 
-fn main() {
+fn main(rt: HostRuntime) {
     let mut buf = io::large_buffer();
     let mut out = io::large_buffer();
-    filter(&rt, &mut buf, &mut out);
+    filter(&rt, &mut rt.stdin(), &mut buf, &mut out);
 }
 
-fn filter(rt: &impl Print, buf: &mut [u8], out: &mut [u8]) {
+fn filter(rt: &impl Print, from: &mut impl Read, buf: &mut [u8], out: &mut [u8]) {
     let mut input = Input::new();
     let mut step = begin();
     let mut number: u64 = 0;
     while number < time::END {
         number += 1;
-        let line = input.line(STDIN_FILENO, buf);
+        let line = input.line(from, buf);
         input = line.input;
         if !line.some {
             end(rt, out, step);

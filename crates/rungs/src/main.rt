@@ -3,7 +3,7 @@
 // error, and then nothing is written.
 #![tactic(auto)]
 use ladder::{MAX_RUNGS, Made, Schedule};
-use libc::{STDERR_FILENO, STDIN_FILENO, STDOUT_FILENO};
+use std::io::Read;
 use text::Scan;
 use text_lines::{Input, Line, Output};
 use time::When;
@@ -29,14 +29,14 @@ struct Next {
     line: Line,
 }
 
-fn main() {
+fn main(rt: HostRuntime) {
     let mut buf = io::large_buffer();
     let mut out = io::buffer();
-    run(&rt, &mut buf, &mut out);
+    run(&rt, &mut rt.stdin(), &mut buf, &mut out);
 }
 
-fn run(rt: &(impl Print + Eprint), buf: &mut [u8], out: &mut [u8]) {
-    let first = Input::new().line(STDIN_FILENO, buf);
+fn run(rt: &(impl Print + Eprint), from: &mut impl Read, buf: &mut [u8], out: &mut [u8]) {
+    let first = Input::new().line(from, buf);
     let rest = first.input;
     if !first.some {
         if text_lines::tell_no_line(rt, 1, rest) {
@@ -48,7 +48,7 @@ fn run(rt: &(impl Print + Eprint), buf: &mut [u8], out: &mut [u8]) {
     let end = first.end;
     let asked = read(rt, &buf[start..end]);
     if asked.scan.fault == text::NONE {
-        if ends(rt, rest, buf) {
+        if ends(rt, from, rest, buf) {
             write(rt, out, made(asked));
         }
     }
@@ -130,8 +130,8 @@ fn byte(n: u64) -> u8 {
 }
 
 // Whether nothing but empty lines follows the first line; else it is told.
-fn ends(rt: &impl Eprint, input: Input, buf: &mut [u8]) -> bool {
-    let next = skip_empty(input, buf);
+fn ends(rt: &impl Eprint, from: &mut impl Read, input: Input, buf: &mut [u8]) -> bool {
+    let next = skip_empty(from, input, buf);
     if next.line.some {
         text_lines::tell(rt, next.number, b"only one line is read.");
         return false;
@@ -140,12 +140,12 @@ fn ends(rt: &impl Eprint, input: Input, buf: &mut [u8]) -> bool {
 }
 
 // The first line after the first that is not empty, with its number.
-fn skip_empty(input: Input, buf: &mut [u8]) -> Next {
+fn skip_empty(from: &mut impl Read, input: Input, buf: &mut [u8]) -> Next {
     let mut rest = input;
     let mut number: u64 = 1;
     while number < MOST {
         number += 1;
-        let line = rest.line(STDIN_FILENO, buf);
+        let line = rest.line(from, buf);
         if stops(line) {
             return Next {
                 number: number,
@@ -180,33 +180,28 @@ fn tell_fault(rt: &impl Eprint, line: &[u8], scan: Scan) {
         text::NONE => (),
         text::NOT_WORD => text_lines::tell(rt, 1, b"the first word must be probes or doubling."),
         text::EXTRA => text_lines::tell(rt, 1, b"there is a field too many."),
-        text::MISSING => tell_named(rt, n, b" is missing."),
+        text::MISSING => tell_named(rt, n, " is missing."),
         _ => tell_range(rt, n),
     }
 }
 
 fn tell_range(rt: &impl Eprint, n: usize) {
     if n == 3 {
-        tell_named(rt, n, b" must be a number from 0 to 255.");
+        tell_named(rt, n, " must be a number from 0 to 255.");
         return;
     }
-    tell_named(rt, n, b" must be a number from 0 to 18446744073709551615.");
+    tell_named(rt, n, " must be a number from 0 to 18446744073709551615.");
 }
 
 // A sentence about the field of number `n`.
-fn tell_named(rt: &impl Eprint, n: usize, words: &[u8]) {
-    io::write_all(STDERR_FILENO, b"line 1: ");
-    if n == 2 {
-        io::write_all(STDERR_FILENO, b"FIRST");
-    } else if n == 3 {
-        io::write_all(STDERR_FILENO, b"COUNT");
-    } else if n == 4 {
-        io::write_all(STDERR_FILENO, b"END");
-    } else {
-        io::write_all(STDERR_FILENO, b"GAP");
-    }
-    io::write_all(STDERR_FILENO, words);
-    io::write_all(STDERR_FILENO, b"\n");
+fn tell_named(rt: &impl Eprint, n: usize, words: &str) {
+    let name = match n {
+        2 => "FIRST",
+        3 => "COUNT",
+        4 => "END",
+        _ => "GAP",
+    };
+    let _ = eprintln!(rt; "line 1: {name}{words}");
 }
 
 fn write(rt: &(impl Print + Eprint), out: &mut [u8], made: Made) {
