@@ -1,5 +1,6 @@
 // `cutover` of machine.rs: a pending epoch becomes current, part by part.
 #![tactic(auto)]
+
 ghost use Rattle.std.specs.Prelude.{◌≡◌, Bool};
 ghost use Rattle.time.specs.Pick.{pick};
 ghost use Rattle.time.specs.Time.{at as when_at};

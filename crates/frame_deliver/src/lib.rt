@@ -1,5 +1,6 @@
 // The plaintext of a frame goes to the place that its delivery names: `deliver` of machine.rs.
 #![tactic(auto)]
+
 ghost use Rattle.std.specs.Prelude.{◌≡◌, ◌+◌, ◌≤◌, length};
 ghost use Rattle.std.proofs.Math.Seq.{paste};
 ghost use Rattle.events.specs.Log.{Appends};

@@ -1,6 +1,7 @@
 // What an authenticated frame tells of each part of the state: the rows of `heard_current`,
 // `heard_previous` and `revert` of machine.rs that change one part alone.
 #![tactic(auto)]
+
 ghost use Rattle.std.specs.Prelude.{◌≡◌};
 ghost use Rattle.cutover.specs.Cutover.{heard_frame};
 ghost use Rattle.frame_evidence.specs.Evidence.{Did, blind_to, prompt_due, staying, moves_now, heard_first, heard_cands, moved_first, shortened, prompted_now, stayed_now, heard_epoch, unassumed, reverted_pend, heard_any, only_assumed, confirming as confirming_of};

@@ -1,6 +1,7 @@
 // What an authenticated frame tells of the peer: `heard_current`, `heard_previous` and `revert` of
 // machine.rs, on the whole state.
 #![tactic(auto)]
+
 ghost use Rattle.std.specs.Prelude.{◌≡◌, [], ◌∷◌};
 ghost use Rattle.events.specs.Events.{Reverted, Prompt, no_rungs};
 ghost use Rattle.events.specs.Log.{Appends};

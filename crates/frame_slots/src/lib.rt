@@ -1,5 +1,6 @@
 // A frame that authenticated: `frame` of machine.rs, and the refusals that concern a frame alone.
 #![tactic(auto)]
+
 ghost use Rattle.std.specs.Prelude.{◌≡◌};
 ghost use Rattle.events.specs.Log.{Appends};
 ghost use Rattle.frame_slots.specs.Frame.{Did, pending_tag, slot_tag, frame_back, ended_out, pend_of, pending_frame, current_frame, previous_frame, frame_of};

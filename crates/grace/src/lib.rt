@@ -1,5 +1,6 @@
 // The probe grace (`grace` of machine.rs).
 #![tactic(auto)]
+
 ghost use Rattle.std.specs.Prelude.{◌≡◌};
 ghost use Rattle.time.specs.Pick.{pick};
 ghost use Rattle.grace.specs.Grace.{grace as grace_of};

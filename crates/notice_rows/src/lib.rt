@@ -1,6 +1,7 @@
 // What a decrypt worker and the path tell, on the whole state: the cases `Worker`, `Delegated`,
 // `Undelegated`, `DataSent` and `Path` of machine.rs, each with what `judge` rejects before it.
 #![tactic(auto)]
+
 ghost use Rattle.std.specs.Prelude.{◌≡◌};
 ghost use Rattle.frame_hear.specs.Hear.{Did};
 ghost use Rattle.notice_rows.specs.Rows.{is_pending, by_slot, rejected, put_recv, put_current, put_previous, raised, raised_current, raised_previous, worker_of, already as already_of, handed, delegated_of, undelegated_of, data_mem, path_mem};

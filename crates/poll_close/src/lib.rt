@@ -1,6 +1,7 @@
 // What a poll does after its passes (machine.rs, the end of `poll`, and `withdraw`): the teardown
 // tests, the start, the offers, and the prompts that can be sealed no more. The state stays.
 #![tactic(auto)]
+
 ghost use Rattle.std.specs.Prelude.{◌≡◌, ◌||◌};
 ghost use Rattle.events.specs.Log.{Appends, at};
 ghost use Rattle.events.specs.Events.{Teardown};

@@ -1,6 +1,7 @@
 // The rows of the poll that change the whole state: a candidate that is dropped, and the three that may cut
 // over (`expire_pass` of machine.rs).
 #![tactic(auto)]
+
 ghost use Rattle.std.specs.Prelude.{◌≡◌};
 ghost use Rattle.time.specs.Pick.{pick};
 ghost use Rattle.numbers.specs.Numbers.{abandon_revert_unconfirmed, abandon_peer_stayed_on_old};

@@ -1,6 +1,7 @@
 // The rows of the poll that change the cycle: each takes the cycle, and writes its events into the lent log
 // (`expire_pass`, `probe`, `resend` and `expire` of machine.rs).
 #![tactic(auto)]
+
 ghost use Rattle.std.specs.Prelude.{◌≡◌, not, [], ◌∷◌, ◌++◌};
 ghost use Rattle.events.specs.Log.{Appends};
 ghost use Rattle.events.specs.Events.{Send, Prompt};

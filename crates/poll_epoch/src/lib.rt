@@ -1,6 +1,7 @@
 // The rows of the poll that change the drained or the current epoch: each takes that epoch, and writes its
 // events into the lent log (`expire_pass` of machine.rs).
 #![tactic(auto)]
+
 ghost use Rattle.std.specs.Prelude.{◌≡◌};
 ghost use Rattle.events.specs.Log.{Appends};
 ghost use Rattle.poll_epoch.specs.EpochRows.{DidCur, drain_due, fin_taken, fin_due, elicit_taken, elicit_due};

@@ -1,6 +1,7 @@
 // One item of a pass: the dispatch of `expire_pass` of machine.rs over the twelve kinds. A row takes its part
 // of the state, and what it leaves is put in place.
 #![tactic(auto)]
+
 ghost use Rattle.std.specs.Prelude.{◌≡◌, Bool, not, ltb, eqb};
 ghost use Rattle.time.specs.Pick.{pick};
 ghost use Rattle.poll_cut.specs.Cut.{Did, due_mem};

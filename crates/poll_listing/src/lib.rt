@@ -2,6 +2,7 @@
 //
 // Items stand in three lent arrays, one to a field, and what earlier passes listed in two more.
 #![tactic(auto)]
+
 ghost use Rattle.std.specs.Prelude.{◌≡◌, [], ◌∷◌, ◌++◌, ◌≤◌, ◌<◌, ◌+◌};
 ghost use Rattle.time.specs.Pick.{pick};
 ghost use Rattle.candidates.specs.Held.{held_of};

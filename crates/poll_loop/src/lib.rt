@@ -1,5 +1,6 @@
 // The passes of a poll (machine.rs, the loop of `poll`).
 #![tactic(auto)]
+
 ghost use Rattle.std.specs.Prelude.{◌≤◌, ◌+◌};
 ghost use Rattle.items.specs.Arrays.{most, most_listed};
 ghost use Rattle.poll_loop.specs.Passes.{three_passes, Extended, Leaves};

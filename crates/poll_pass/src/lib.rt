@@ -1,5 +1,6 @@
 // One pass of a poll (machine.rs, `expire_pass`).
 #![tactic(auto)]
+
 ghost use Rattle.std.specs.Prelude.{◌≡◌, []};
 ghost use Rattle.time.specs.Time.{least};
 ghost use Rattle.items.specs.Arrays.{most};

@@ -4,6 +4,7 @@
 // What is read of the current epoch is passed as two numbers, its sent count and its start: the
 // epoch itself is large.
 #![tactic(auto)]
+
 ghost use Rattle.std.specs.Prelude.{◌≡◌, ◌-◌};
 ghost use Rattle.cycle.specs.Kind.{is_idle};
 ghost use Rattle.start.specs.Start.{trigger_of, silence_interval, latest_of, ahead as ahead_of, aged as aged_of, latest_in, trigger_at, silence_at, floors_passed, floor_ends, damped_now, backed_now, triggered_now, scheduled_now, silent_now, kind_of, scheduled_after, at_of, may_start, start_kind, start_at, called_for};

@@ -1,6 +1,7 @@
 // The next wake, and whether a poll has something to do (machine.rs: `due`, `next_wake` and the
 // teardown tests of `poll`).
 #![tactic(auto)]
+
 ghost use Rattle.std.specs.Prelude.{◌≡◌, not, ◌&&◌, [], ◌∷◌, ◌++◌};
 ghost use Rattle.time.specs.Pick.{pick};
 ghost use Rattle.time.specs.Time.{at as at_of, sooner_of};

@@ -1,0 +1,11 @@
+use mir.Facts.{to_z-of_z}
+use Rattle.poll_cut.specs.Cut.{delay_end}
+use Rattle.poll_cut.proofs.delay_end.Goals as goal
+
+pub returns-then-and : goal.returns-then-and
+unfolding delay_end
+returns-then-and c = (simp (c.cut_by.ensures.0, c.cut_by.ensures.1.0, c.cut_by.ensures.1.1, c.if-and.true, ← c.and.ensures, ← c.waits_delay-waits.ensures, ← c.is_own-own.ensures, to_z-of_z c.ranges.spread), (simp (c.cut_by.ensures.0, c.cut_by.ensures.1.0, c.cut_by.ensures.1.1, c.if-and.true, ← c.and.ensures, ← c.waits_delay-waits.ensures, ← c.is_own-own.ensures, to_z-of_z c.ranges.spread), simp (c.cut_by.ensures.0, c.cut_by.ensures.1.0, c.cut_by.ensures.1.1, c.if-and.true, ← c.and.ensures, ← c.waits_delay-waits.ensures, ← c.is_own-own.ensures, to_z-of_z c.ranges.spread)))
+
+pub returns-else-and : goal.returns-else-and
+unfolding delay_end
+returns-else-and c = (simp (c.if-and.false, ← c.and.ensures, ← c.waits_delay-waits.ensures, ← c.is_own-own.ensures, to_z-of_z c.ranges.spread), (simp (c.if-and.false, ← c.and.ensures, ← c.waits_delay-waits.ensures, ← c.is_own-own.ensures, to_z-of_z c.ranges.spread), simp (c.if-and.false, ← c.and.ensures, ← c.waits_delay-waits.ensures, ← c.is_own-own.ensures, to_z-of_z c.ranges.spread)))
