@@ -74,9 +74,7 @@ fn write_byte(rt: &impl Print, out: &mut [u8], pen: Pen, b: u8) -> Pen {
 
 fn write_number(rt: &impl Print, out: &mut [u8], pen: Pen, v: &[u64; ROW]) -> Pen {
     Pen {
-        o: pen
-            .o
-            .number(rt, out, leaves_requests::get(v, pen.at)),
+        o: pen.o.number(rt, out, leaves_requests::get(v, pen.at)),
         at: leaves_requests::after(pen.at, 1),
     }
 }

@@ -3,6 +3,7 @@
 // other line with its answer lines, which begin so. A line that does not read is told on standard
 // error, and the program stops there.
 #![tactic(auto)]
+
 mod forms;
 
 use leaves_requests::{Form, ROW};
@@ -46,7 +47,13 @@ fn finish(rt: &(impl Print + Eprint), out: &[u8], o: Output, number: u64) {
 
 // Writes a line and its answers, unless it is an answer itself. Where that fails, or the line does
 // not read, it is told, and the output is left as failed.
-fn respond(rt: &(impl Print + Eprint), line: &[u8], out: &mut [u8], o: Output, number: u64) -> Output {
+fn respond(
+    rt: &(impl Print + Eprint),
+    line: &[u8],
+    out: &mut [u8],
+    o: Output,
+    number: u64,
+) -> Output {
     if is_answer(line) {
         return o;
     }

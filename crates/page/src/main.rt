@@ -2,6 +2,7 @@
 // crates `text_lists` and `text_words` say, and no entry lacks a row. It reads the page and writes a line
 // for each row that does not agree, and how many do.
 #![tactic(auto)]
+
 mod rows;
 
 use rows::Row;

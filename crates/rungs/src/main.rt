@@ -2,6 +2,7 @@
 // writes the rungs of that schedule and how many were dropped. Anything else is told on standard
 // error, and then nothing is written.
 #![tactic(auto)]
+
 use ladder::{MAX_RUNGS, Made, Schedule};
 use std::io::Read;
 use text::Scan;

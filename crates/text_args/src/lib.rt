@@ -3,6 +3,7 @@
 // `requires`: past the end of the row a number is 0, and a number that a narrower type does not hold
 // becomes its largest.
 #![tactic(auto)]
+
 ghost use Rattle.std.specs.Prelude.{◌≡◌, ◌+◌};
 ghost use Rattle.text_args.specs.Args.{number_at, flag_at, byte_at, word_at, signed_at, index_at, when_at, extra_at, largest_word};
 ghost use Rattle.time.specs.Time.{least};

@@ -4,7 +4,14 @@ use crate::fields::EventField;
 use text_lines::Output;
 
 // The part of `e` from `from` to `to`.
-fn write_part(rt: &impl Print, out: &mut [u8], o: Output, e: &[u8], from: usize, to: usize) -> Output {
+fn write_part(
+    rt: &impl Print,
+    out: &mut [u8],
+    o: Output,
+    e: &[u8],
+    from: usize,
+    to: usize,
+) -> Output {
     if e.len() < to {
         return o;
     }
@@ -45,7 +52,13 @@ pub fn write_words(rt: &impl Print, out: &mut [u8], o: Output, list: u8, number:
 }
 
 // An event in the replay format: `= e `, its name and its fields.
-pub fn write_event(rt: &impl Print, out: &mut [u8], o: Output, log: &[u64; 768], i: usize) -> Output {
+pub fn write_event(
+    rt: &impl Print,
+    out: &mut [u8],
+    o: Output,
+    log: &[u64; 768],
+    i: usize,
+) -> Output {
     let mut e = [0u8; text_lists::ENTRY];
     text_lists::entry(text_lists::EVENTS, events::kind_at(log, i), &mut e);
     let marked = o.bytes(rt, out, b"= e ");
@@ -76,7 +89,14 @@ pub fn write_explained(
 }
 
 // ` # `, the event's words, and its fields behind a `:` where it has any.
-fn write_meaning(rt: &impl Print, out: &mut [u8], o: Output, e: &[u8], log: &[u64; 768], i: usize) -> Output {
+fn write_meaning(
+    rt: &impl Print,
+    out: &mut [u8],
+    o: Output,
+    e: &[u8],
+    log: &[u64; 768],
+    i: usize,
+) -> Output {
     let marked = o.bytes(rt, out, b" # ");
     let worded = write_entry_words(rt, out, marked, e);
     if !fields::field_at(e, fields::first(e)).some {
@@ -177,7 +197,14 @@ fn write_number(rt: &impl Print, out: &mut [u8], o: Output, n: u64) -> Output {
     apart.number(rt, out, n)
 }
 
-fn write_optional(rt: &impl Print, out: &mut [u8], o: Output, some: u64, n: u64, none: &[u8]) -> Output {
+fn write_optional(
+    rt: &impl Print,
+    out: &mut [u8],
+    o: Output,
+    some: u64,
+    n: u64,
+    none: &[u8],
+) -> Output {
     if some == 1 {
         return write_number(rt, out, o, n);
     }
@@ -185,7 +212,13 @@ fn write_optional(rt: &impl Print, out: &mut [u8], o: Output, some: u64, n: u64,
 }
 
 // ` # ` and what a refusal says; of the settings' also which check fails.
-pub fn write_refused(rt: &impl Print, out: &mut [u8], o: Output, number: u64, place: u64) -> Output {
+pub fn write_refused(
+    rt: &impl Print,
+    out: &mut [u8],
+    o: Output,
+    number: u64,
+    place: u64,
+) -> Output {
     let marked = o.bytes(rt, out, b" # ");
     let worded = write_words(rt, out, marked, text_lists::REFUSALS, number);
     if place == 0 {

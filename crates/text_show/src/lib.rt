@@ -1,5 +1,6 @@
 // The state of a row as a line of the replay format. No public function has a `requires`.
 #![tactic(auto)]
+
 use text_form::places;
 use text_lines::Output;
 
