@@ -6,22 +6,23 @@ mod faults;
 mod lines;
 mod steps;
 
-use libc::STDIN_FILENO;
+use std::io::Read;
+use std::rt::Runtime;
 use text_lines::Input;
 
-fn main() {
+fn main(rt: HostRuntime) {
     let mut buf = io::large_buffer();
     let mut out = io::large_buffer();
-    let n = text_source::count();
+    let n = text_source::count(&rt);
     if n == 0 {
-        filter(&rt, STDIN_FILENO, &mut buf, &mut out);
+        filter(&rt, &mut rt.stdin(), &mut buf, &mut out);
     } else {
         each(&rt, n, &mut buf, &mut out);
     }
 }
 
 // The lists that the arguments name, one after another.
-fn each(rt: &(impl Print + Eprint), n: usize, buf: &mut [u8], out: &mut [u8]) {
+fn each(rt: &impl Runtime, n: usize, buf: &mut [u8], out: &mut [u8]) {
     let mut i: usize = 0;
     while i < n {
         i += 1;
@@ -29,21 +30,19 @@ fn each(rt: &(impl Print + Eprint), n: usize, buf: &mut [u8], out: &mut [u8]) {
     }
 }
 
-fn named(rt: &(impl Print + Eprint), i: usize, buf: &mut [u8], out: &mut [u8]) {
-    if text_source::is_help(i) {
+fn named(rt: &impl Runtime, i: usize, buf: &mut [u8], out: &mut [u8]) {
+    if text_source::is_help(rt, i) {
         help(rt);
         return;
     }
-    let fd = text_source::open(i);
-    if 0 <= fd {
-        filter(rt, fd, buf, out);
-        text_source::close(fd);
+    if let Some(mut source) = text_source::open(rt, i) {
+        filter(rt, &mut source, buf, out);
+        text_source::close(source);
     }
 }
 
 fn help(rt: &impl Print) {
-    io::write_all(
-        STDOUT_FILENO,
+    let _ = rt.write_all(
         b"runs [FILE ..]: reads a list of calls on a link, from standard input where no file is named,
 and writes what the link tells: call, instant, event, a, b. A line is one of
   open T [responder | initiator] [transport N] [lease N] [workers F] [spread N]
@@ -63,14 +62,14 @@ docs/RUNS.md has every name, docs/EVENTS.md what each event means, docs/SUPPORT.
     );
 }
 
-fn filter(rt: &(impl Print + Eprint), fd: i32, buf: &mut [u8], out: &mut [u8]) {
+fn filter(rt: &(impl Print + Eprint), from: &mut impl Read, buf: &mut [u8], out: &mut [u8]) {
     let mut input = Input::new();
     let mut step = steps::begin(rt, out);
     let mut number: u64 = 0;
     while number < time::END {
         number += 1;
         step = steps::ready(rt, step, out, input.waits(buf));
-        let line = input.line(fd, buf);
+        let line = input.line(from, buf);
         input = line.input;
         if !line.some {
             steps::end(rt, out, step, number, input);
