@@ -1,3 +1,2 @@
 pub mod Reply
-pub mod Laws
 pub mod Exact

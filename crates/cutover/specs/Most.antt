@@ -9,7 +9,7 @@ use Rattle.state.specs.declared.State.{State}
 use Rattle.state.specs.declared.Given.{Given}
 use Rattle.events.specs.Events.{PeerRestarted}
 use Rattle.retire.specs.Retire.{retire_out}
-use Rattle.retire.specs.Most.{only-most, retire_most, delegate_most}
+use Rattle.retire.proofs.Most.{only-most, retire_most, delegate_most}
 use Rattle.time.specs.Pick.{and}
 use Rattle.cutover.specs.declared.Pend.{Pend}
 use Rattle.cutover.specs.Cutover.{given_up, adopted, announced, cutover_of}

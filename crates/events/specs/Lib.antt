@@ -2,4 +2,3 @@ pub mod Events
 pub mod Log
 pub mod Queries
 pub mod Withdraw
-pub mod Laws

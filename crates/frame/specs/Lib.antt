@@ -1,4 +1,2 @@
 pub mod Frames
-pub mod Laws
 pub mod Exact
-pub mod Answer

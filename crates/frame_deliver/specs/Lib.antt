@@ -1,2 +1,1 @@
 pub mod Deliver
-pub mod Laws

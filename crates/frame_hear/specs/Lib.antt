@@ -1,3 +1,1 @@
 pub mod Hear
-pub mod Laws
-pub mod Most

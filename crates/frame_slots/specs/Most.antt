@@ -6,10 +6,10 @@ use Rattle.cycle.specs.Kind.{is_pend_r}
 use Rattle.state.specs.declared.State.{State}
 use Rattle.state.specs.declared.Given.{Given}
 use Rattle.events.specs.Events.{Event, Ended}
-use Rattle.retire.specs.Most.{only-most}
+use Rattle.retire.proofs.Most.{only-most}
 use Rattle.time.specs.Pick.{and}
 use Rattle.cutover.specs.Most.{cutover-most}
-use Rattle.frame_hear.specs.Most.{current-most, previous_most}
+use Rattle.frame_hear.proofs.Most.{current-most, previous_most}
 use Rattle.frame_slots.specs.declared.FrameProof.{FrameProof}
 use Rattle.frame_deliver.specs.Deliver.{reaches, deliver_out}
 use Rattle.frame_slots.specs.Frame.{FrameStep, ended_out, pend_of, pending_frame, current_frame, previous_frame, slot_frame, frame_of}

@@ -1,4 +1,2 @@
 pub mod Items
 pub mod Arrays
-pub mod Sorted
-pub mod Laws

@@ -1,6 +1,5 @@
 pub mod Schedule
 pub mod Fill
-pub mod Rungs
 pub mod Ladder
 pub mod Worked
 pub mod Laws

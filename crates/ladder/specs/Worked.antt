@@ -1,11 +1,10 @@
 -- P1 to P11 of document 01, one table, against the definitions; P8 to P10 with the number taken, of which
 -- request 2 says "P9 then gives 1 and P10 gives 3".
-use Rattle.std.specs.Prelude.{ℕ, ◌-◌, true, false, ◌≡◌, refl, List, [], ◌∷◌}
-use Rattle.time.specs.Lists.{fold, range, kept, take_while}
-use Rattle.time.specs.Time.{none, at, later_of, sat_mul, least, most}
+use Rattle.std.specs.Prelude.{ℕ, ◌-◌, true, false, ◌≡◌, List, [], ◌∷◌}
+use Rattle.time.specs.Time.{none, at}
 use Rattle.ladder.specs.declared.Ladder.{Ladder}
-use Rattle.ladder.specs.Schedule.{max_rungs, Rung, Plan, send, keepalive, cut, doubled, doubling_of, keepalives, filled, probes_of, bits_of, laid, rung_at, held_of, rungs_of}
-use Rattle.ladder.specs.Ladder.{anew, remaining, next_at_of, due_of, due_rungs, taking, take_of}
+use Rattle.ladder.specs.Schedule.{max_rungs, Rung, Plan, send, keepalive, doubling_of, probes_of, laid}
+use Rattle.ladder.specs.Ladder.{anew, next_at_of, due_of, take_of}
 
 abbrev plan : List Rung → ℕ → Plan
 plan l d = record { rungs = l; dropped = d }
@@ -36,7 +35,3 @@ pub record Table : Type 0 where
   pub p10 : take_of (p7 0) 8000 ≡ record { ladder = past 3; any = true; taken = 3; send = true; latest = 8000; last = true }
   -- due at the origin, and not before
   pub p11 : (next_at_of (p7 late_origin) ≡ at late_origin) × (due_of (p7 late_origin) late_origin ≡ true) × (due_of (p7 late_origin) (late_origin - 1) ≡ false)
-
-pub table : Table
-unfolding fold range kept take_while later_of sat_mul least most cut doubled doubling_of keepalives filled probes_of bits_of laid rung_at held_of rungs_of remaining next_at_of due_of due_rungs taking take_of
-table = record { p1 = refl; p2 = refl; p3 = refl; p4 = refl; p5 = refl; p6 = refl; p7-plan = refl; p8 = refl; p9 = refl; p10 = refl; p11 = (refl, refl, refl) }

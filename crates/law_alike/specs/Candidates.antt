@@ -8,7 +8,7 @@ use Rattle.time.specs.Lists.{kept, range, length-range}
 use Rattle.time.specs.Laws.{least-left}
 use Rattle.candidates.specs.declared.Candidates.{Candidates}
 use Rattle.candidates.specs.Held.{Candidate, held_of, held_by, cand_at, without, expired_in, born_after, spot_of, choosing, removed_of, younger, kept_after, cleared_of, expire_of}
-use Rattle.candidates.specs.Laws.{held-most, held_removed, held_kept, held_cleared, kept-most}
+use Rattle.candidates.proofs.Laws.{held-most, held_removed, held_kept, held_cleared, kept-most}
 use Rattle.state.specs.Stands.{CandidateView, candidate_view, CandidatesView, candidates_view}
 use Rattle.law_alike.specs.Optional.{Same, choose}
 use Rattle.law_alike.specs.Due.{numbers-alike}

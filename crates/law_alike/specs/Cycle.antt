@@ -7,7 +7,7 @@ use Rattle.time.specs.Pick.{pick}
 use Rattle.cycle.specs.declared.Cycle.{Cycle}
 use Rattle.cycle.specs.Kind.{is_init, is_pend_i, is_pend_r, is_idle, waits_held, waits_evidence, waits_delay}
 use Rattle.state.specs.Stands.{AttemptView, attempt_view, Wait, held, evidence, delay, PendIView, pend_iView, PendRView, pend_rView, CycleView, idle, init, pend_i, pend_r, cycle_view}
-use Rattle.refusal.specs.Standing.{other-kind}
+use Rattle.refusal.proofs.Standing.{other-kind}
 use Rattle.law_alike.specs.Optional.{Same, picked}
 use Rattle.law_alike.specs.Parts.{wait_view, AlikeAttempt, attempt_fields, AlikePendI, pendi_fields, AlikePendR, pendr_fields}
 

@@ -17,7 +17,7 @@ use Rattle.cycle.specs.declared.Cycle.{Cycle}
 use Rattle.cycle.specs.Kind.{is_pend_i, is_pend_r}
 use Rattle.candidates.specs.declared.Candidates.{Candidates}
 use Rattle.candidates.specs.Held.{held_by, firsts}
-use Rattle.candidates.specs.Laws.{numbers-held, deadlines_held}
+use Rattle.candidates.proofs.Laws.{numbers-held, deadlines_held}
 use Rattle.items.specs.Items.{item}
 use Rattle.state.specs.declared.State.{State}
 use Rattle.state.specs.declared.Profile.{Profile}

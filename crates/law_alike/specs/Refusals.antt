@@ -13,7 +13,8 @@ use Rattle.state.specs.declared.Profile.{Profile}
 use Rattle.state.specs.Parts.{listed, pending_of, epochs_of}
 use Rattle.state.specs.Stands.{epoch_view}
 use Rattle.refusal.specs.Refusal.{is_pending, epochs_bad_of, tags_of, numbers_bad, ladders_bad, state_tests, poll_tests, frame_tests, link_tests, first, state_back, before_poll}
-use Rattle.refusal.specs.Standing.{pending_ep, standing_bad, either_bad, epoch_bad, held_bad, cycle_bad, ladders-apart}
+use Rattle.refusal.specs.Standing.{pending_ep, standing_bad, either_bad, epoch_bad, held_bad, cycle_bad}
+use Rattle.refusal.proofs.Standing.{ladders-apart}
 use Rattle.law_alike.specs.Optional.{Same, choose, picked, both}
 use Rattle.law_alike.specs.Parts.{ladder_fields, epoch_fields}
 use Rattle.law_alike.specs.Ladders.{fin-some, fin-ladder, may-some, may-ladder}

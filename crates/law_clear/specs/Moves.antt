@@ -23,14 +23,14 @@ use Rattle.cycle.specs.Put.{put_init, put_pend_i, moved_init, with_fin, with_pro
 use Rattle.cycle.specs.Kind.{is_init, is_pend_i, is_pend_r, idled, waits_held, waits_evidence, waits_delay}
 use Rattle.candidates.specs.declared.Candidates.{Candidates}
 use Rattle.candidates.specs.Held.{Candidate, held_by, numbers, without, expired_in, cleared_of, expire_of}
-use Rattle.candidates.specs.Laws.{held_expire, held_cleared, numbers-held}
+use Rattle.candidates.proofs.Laws.{held_expire, held_cleared, numbers-held}
 use Rattle.candidates.specs.Repeats.{among, repeated}
 use Rattle.state.specs.declared.Memory.{Memory}
 use Rattle.state.specs.declared.State.{State}
 use Rattle.state.specs.declared.Given.{Given}
 use Rattle.state.specs.Parts.{put_mem, put_cur, put_drain, put_cycle, put_cands}
 use Rattle.refusal.specs.Refusal.{any_of}
-use Rattle.refusal.specs.First.{or_left, or_right, or_none}
+use Rattle.refusal.proofs.First.{or_left, or_right, or_none}
 use Rattle.law_refusal.specs.Sound.{Sound}
 use Rattle.time.specs.Pick.{and, and_left}
 use Rattle.epoch.specs.Held.{is_tag}

@@ -24,7 +24,7 @@ use Rattle.state.specs.declared.State.{State}
 use Rattle.state.specs.Parts.{listed}
 use Rattle.start.specs.Start.{instants}
 use Rattle.refusal.specs.Refusal.{any_of}
-use Rattle.refusal.specs.Standing.{other-kind}
+use Rattle.refusal.proofs.Standing.{other-kind}
 use Rattle.wake.specs.Due.{ladder_instants, may_instants, fin_instants, elicit_instants, items_at, drain_items, candidate_items, pending_items, cycle_items, current_items, named, is_due, due_items, some_in, any_due}
 use Rattle.poll_listing.specs.Listing.{unlisted, fresh, pass_items}
 use Rattle.law_exact.specs.Reads.{Each, Some}

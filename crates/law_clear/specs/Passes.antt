@@ -15,10 +15,10 @@ use Rattle.time.specs.Lists.{fold, kept}
 use Rattle.numbers.specs.Numbers.{item_drain, item_fin, item_elicit, item_resend, item_expire}
 use Rattle.cycle.specs.Kind.{is_init, is_pend_i}
 use Rattle.items.specs.Items.{Item, item, listed_in}
-use Rattle.items.specs.Sorted.{listed-untimed}
+use Rattle.items.proofs.Sorted.{listed-untimed}
 use Rattle.state.specs.declared.State.{State}
 use Rattle.state.specs.declared.Given.{Given}
-use Rattle.refusal.specs.Standing.{other-kind}
+use Rattle.refusal.proofs.Standing.{other-kind}
 use Rattle.law_refusal.specs.Sound.{Sound}
 use Rattle.wake.specs.Due.{named, is_due, due_items, any_due}
 use Rattle.poll_item.specs.Item.{item_step}

@@ -17,7 +17,8 @@ use Rattle.state.specs.declared.Profile.{Profile}
 use Rattle.state.specs.Parts.{ladders_of}
 use Rattle.refusal.specs.declared.Refused.{Refused}
 use Rattle.refusal.specs.Refusal.{any_of, profile_bad, cands_bad, epochs_bad, numbers_bad, ladders_bad, Test, accepted, first, numbered, by, by_settings, given_tests, state_tests, link_tests, state_back}
-use Rattle.refusal.specs.First.{or_left, or_right, rising, first-append}
+use Rattle.refusal.specs.First.{rising}
+use Rattle.refusal.proofs.First.{or_left, or_right, first-append}
 use Rattle.law_refusal.specs.Sound.{Sound, sound, sounding}
 use Rattle.law_exact.specs.Reads.{Reads, Some}
 use Rattle.law_exact.specs.Words.{SettingsFail, FailsAt, fails-at, ProfileOut, GivenOk, TooMany, CountOk, WithoutCurrent, WithCurrent, Shared, Different, LadderOut, StateOk, reads_settings, reads_profile, reads_many, reads_current, reads_shared, reads_ladders}

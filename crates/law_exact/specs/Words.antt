@@ -6,7 +6,8 @@ use Rattle.ladder.specs.Schedule.{max_rungs}
 use Rattle.ladder.specs.declared.Ladder.{Ladder}
 use Rattle.settings.specs.declared.Config.{Config}
 use Rattle.settings.specs.Settings.{failing, first_at, place_of}
-use Rattle.settings.specs.Accepted.{Accepted, accepted, accepting}
+use Rattle.settings.specs.Accepted.{Accepted}
+use Rattle.settings.proofs.Accepted.{accepted, accepting}
 use Rattle.state.specs.declared.State.{State}
 use Rattle.state.specs.declared.Profile.{Profile}
 use Rattle.state.specs.Parts.{ladders_of}

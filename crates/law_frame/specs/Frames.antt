@@ -19,9 +19,9 @@ use Rattle.cutover.specs.declared.Pend.{Pend}
 use Rattle.frame_hear.specs.Hear.{given_of}
 use Rattle.frame_slots.specs.declared.FrameProof.{FrameProof}
 use Rattle.frame_slots.specs.Frame.{FrameStep, pending_tag, slot_tag, frame_back, put_k, pend_of, pending_frame, current_frame, previous_frame, slot_frame, frame_of}
-use Rattle.answer.specs.Laws.{by-test as outcome_by-test}
+use Rattle.answer.proofs.Laws.{by-test as outcome_by-test}
 use Rattle.frame.specs.Frames.{frame_refused, heard, frame_answer}
-use Rattle.frame.specs.Laws.{frame_refused_lem}
+use Rattle.frame.proofs.Laws.{frame_refused_lem}
 use Rattle.law_sound.specs.Cutover.{cut-sound}
 use Rattle.law_early.specs.Early.{Early}
 use Rattle.law_early.specs.Parts.{cut-early}

@@ -13,7 +13,7 @@ use Rattle.cycle.specs.Put.{put_pend_i, with_probes}
 use Rattle.candidates.specs.declared.Candidates.{Candidates}
 use Rattle.candidates.specs.Held.{firsts, cleared_of, kept_after}
 use Rattle.candidates.specs.Repeats.{repeated}
-use Rattle.candidates.specs.Laws.{cleared_len, cleared_once, kept-len, kept-once}
+use Rattle.candidates.proofs.Laws.{cleared_len, cleared_once, kept-len, kept-once}
 use Rattle.state.specs.declared.Memory.{Memory}
 use Rattle.state.specs.declared.State.{State}
 use Rattle.state.specs.declared.Given.{Given}

@@ -6,7 +6,7 @@ use Rattle.time.specs.Pick.{pick}
 use Rattle.numbers.specs.Numbers.{item_drain, item_probe, item_delayed, item_fin, item_elicit, item_resend, cycle_idle, cycle_init, cycle_pend_i, cycle_pend_r}
 use Rattle.cycle.specs.Kind.{is_idle}
 use Rattle.candidates.specs.Held.{held_of}
-use Rattle.candidates.specs.Laws.{held-most}
+use Rattle.candidates.proofs.Laws.{held-most}
 use Rattle.state.specs.declared.State.{State}
 use Rattle.items.specs.Items.{Item}
 use Rattle.poll_cut.specs.Cut.{Step}

@@ -13,13 +13,13 @@ use Rattle.settings.specs.declared.Config.{Config}
 use Rattle.cycle.specs.Kind.{is_init, is_pend_i, is_pend_r, waits_held, waits_evidence, waits_delay}
 use Rattle.candidates.specs.declared.Candidates.{Candidates}
 use Rattle.candidates.specs.Held.{held_of, held_by, spot_of, others, choosing, removed_of, cleared_of, expired_in, expire_of, leaving}
-use Rattle.candidates.specs.Laws.{held-most, length-others, expired-at, cleared_len}
+use Rattle.candidates.proofs.Laws.{held-most, length-others, expired-at, cleared_len}
 use Rattle.state.specs.declared.State.{State}
 use Rattle.state.specs.declared.Given.{Given}
 use Rattle.state.specs.Parts.{put_cands}
 use Rattle.events.specs.Events.{Event, Ended, Abandoned, Teardown, Reject, Send}
 use Rattle.retire.specs.Retire.{only}
-use Rattle.retire.specs.Most.{only-most, retire_most, abandon_most}
+use Rattle.retire.proofs.Most.{only-most, retire_most, abandon_most}
 use Rattle.time.specs.Pick.{and, and_left}
 use Rattle.epoch.specs.Held.{is_tag}
 use Rattle.cycle.specs.Held.{is_own, is_peers}

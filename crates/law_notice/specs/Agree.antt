@@ -17,7 +17,7 @@ use Rattle.state.specs.declared.Given.{Given}
 use Rattle.state.specs.Stands.{when_view, epoch_view, memory_view}
 use Rattle.refusal.specs.Refusal.{first, by, spread_bad, given_tests, state_tests, frame_tests, before_frame}
 use Rattle.answer.specs.Outcome.{done}
-use Rattle.answer.specs.Laws.{by-taken}
+use Rattle.answer.proofs.Laws.{by-taken}
 use Rattle.law_refusal.specs.Sound.{Sound}
 use Rattle.law_alike.specs.Optional.{Same, when, related}
 use Rattle.law_alike.specs.Parts.{AlikeEpoch, epoch_fields, AlikeMemory, memory_fields}

@@ -15,7 +15,7 @@ use Rattle.state.specs.declared.Given.{Given}
 use Rattle.state.specs.Parts.{put_mem}
 use Rattle.refusal.specs.Refusal.{before_frame, state_back}
 use Rattle.answer.specs.Outcome.{Outcome, done}
-use Rattle.answer.specs.Laws.{by-either}
+use Rattle.answer.proofs.Laws.{by-either}
 use Rattle.law_refusal.specs.Sound.{Sound, sound, sounding}
 use Rattle.law_sound.specs.Parts.{on-mem, keep-cur}
 use Rattle.law_early.specs.Early.{Early}
@@ -24,7 +24,7 @@ use Rattle.frame_hear.specs.Hear.{HearStep}
 use Rattle.law_frame.specs.Hearing.{Like, current-sound, current-early}
 use Rattle.law_frame.specs.Revert.{previous_sound, previous_early}
 use Rattle.notice_rows.specs.Rows.{put_floor, put_recv, put_current, put_previous, raised, raised_current, raised_previous, worker_of, already, handed, data_mem, data_sent_of, path_mem, path_of}
-use Rattle.notice_rows.specs.Laws.{slotted}
+use Rattle.notice_rows.proofs.Laws.{slotted}
 use Rattle.notice.specs.Notices.{notice_by}
 
 -- ---- what a state that follows another keeps of it

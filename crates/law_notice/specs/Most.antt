@@ -11,10 +11,10 @@ use Rattle.state.specs.declared.Profile.{Profile}
 use Rattle.state.specs.declared.Given.{Given}
 use Rattle.refusal.specs.Refusal.{before_frame}
 use Rattle.answer.specs.Outcome.{Outcome, done}
-use Rattle.answer.specs.Laws.{by-either}
+use Rattle.answer.proofs.Laws.{by-either}
 use Rattle.frame_evidence.specs.Evidence.{blind_to, prompted_now, heard_epoch}
 use Rattle.frame_hear.specs.Hear.{HearStep, given_of, hearing, heard_current}
-use Rattle.notice_rows.specs.Most.{worker-most, handed-most}
+use Rattle.notice_rows.proofs.Most.{worker-most, handed-most}
 use Rattle.notice.specs.Notices.{notice_by, worker_answer, delegated_answer, undelegated_answer, data_sent_answer, path_answer}
 
 -- ---- the call tells what its case tells, or nothing, and has no count

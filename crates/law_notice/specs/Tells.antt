@@ -18,11 +18,11 @@ use Rattle.events.specs.Events.{Event, Prompt, Unbind, Release, Reverted, Reject
 use Rattle.retire.specs.Retire.{only, abandon_out}
 use Rattle.refusal.specs.Refusal.{any_of, before_frame}
 use Rattle.answer.specs.Outcome.{Outcome, done}
-use Rattle.answer.specs.Laws.{by-either}
+use Rattle.answer.proofs.Laws.{by-either}
 use Rattle.frame_evidence.specs.Evidence.{EpochStep, prompt_due, prompted_now, only_assumed}
 use Rattle.frame_hear.specs.Hear.{HearStep, given_of, heard_current, revert_of, assumed_heard, confirming_heard, heard_previous}
 use Rattle.notice_rows.specs.Rows.{raised_current, raised_previous, worker_of, already, handed, delegated_of, undelegated_of}
-use Rattle.notice_rows.specs.Laws.{slotted}
+use Rattle.notice_rows.proofs.Laws.{slotted}
 use Rattle.notice.specs.Notices.{notice_by, worker_answer, delegated_answer, undelegated_answer}
 use Rattle.law_notice.specs.Most.{current-tells}
 

@@ -11,7 +11,7 @@ use Rattle.time.specs.Pick.{pick}
 use Rattle.time.specs.Lists.{kept}
 use Rattle.numbers.specs.Numbers.{teardown_opening_idle, teardown_counter_exhausted}
 use Rattle.epoch.specs.declared.Epoch.{Epoch}
-use Rattle.candidates.specs.Laws.{kept-most}
+use Rattle.candidates.proofs.Laws.{kept-most}
 use Rattle.state.specs.declared.State.{State}
 use Rattle.state.specs.declared.Given.{Given}
 use Rattle.events.specs.Events.{Event, Teardown, Start, Delegate}

@@ -11,7 +11,7 @@ use Rattle.std.proofs.Math.ListN.{length}
 use Rattle.time.specs.Pick.{pick}
 use Rattle.time.specs.Lists.{kept}
 use Rattle.items.specs.Items.{Item, listed_in}
-use Rattle.items.specs.Sorted.{length-sorted}
+use Rattle.items.proofs.Sorted.{length-sorted}
 use Rattle.state.specs.declared.State.{State}
 use Rattle.state.specs.declared.Given.{Given}
 use Rattle.wake.specs.Due.{due_items, some_in, any_due}

@@ -1,5 +1,3 @@
 pub mod Every
-pub mod Stays
 pub mod Frames
-pub mod Notices
 pub mod Rungs

@@ -15,8 +15,10 @@ use Rattle.cycle.specs.Kind.{is_init, is_pend_i, is_pend_r}
 use Rattle.candidates.specs.Repeats.{repeated}
 use Rattle.state.specs.declared.State.{State}
 use Rattle.refusal.specs.Refusal.{any_of, cands_bad, is_pending, epochs_bad_of, epochs_bad, tags_of, seqs_of, numbers_bad, ladder_bad, ladders_bad, by, state_tests, state_back}
-use Rattle.refusal.specs.First.{or_left, or_right, or_none, rising, none-back, back_none, none-at}
-use Rattle.refusal.specs.Standing.{tag_of, pending_ep, shared_of, tags_bad, standing_bad, either_bad, epoch_bad, held_bad, cycle_bad, other-kind, tags-apart, ladders-apart}
+use Rattle.refusal.specs.First.{rising}
+use Rattle.refusal.proofs.First.{or_left, or_right, or_none, none-back, back_none, none-at}
+use Rattle.refusal.specs.Standing.{tag_of, pending_ep, shared_of, tags_bad, standing_bad, either_bad, epoch_bad, held_bad, cycle_bad}
+use Rattle.refusal.proofs.Standing.{other-kind, tags-apart, ladders-apart}
 
 -- a ladder's length and cursor
 pub record Within (len next : ℕ) : Type 0 where

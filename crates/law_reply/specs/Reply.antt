@@ -13,7 +13,7 @@ use Rattle.refusal.specs.Refusal.{state_back}
 use Rattle.law_refusal.specs.Sound.{Within, Sound, sound, sounding}
 use Rattle.call_reply.specs.declared.StartReply.{StartReply}
 use Rattle.answer.specs.Outcome.{done}
-use Rattle.answer.specs.Laws.{by-either}
+use Rattle.answer.proofs.Laws.{by-either}
 use Rattle.call_reply.specs.Reply.{measures, setup_first, setup_sched, attempt_sched, attempt_of, memory_after, started_of, taken_of, reply_refused, reply_of}
 use Rattle.law_sound.specs.Ladders.{doubling_within, first-within}
 use Rattle.law_early.specs.Early.{Early}

@@ -13,11 +13,11 @@ use Rattle.refusal.specs.Refusal.{numbered, before_open}
 use Rattle.law_refusal.specs.Sound.{Sound, sound, sounding}
 use Rattle.call_open.specs.Blank.{no_current, no_drain, idle}
 use Rattle.answer.specs.Outcome.{done}
-use Rattle.answer.specs.Laws.{by-either}
+use Rattle.answer.proofs.Laws.{by-either}
 use Rattle.call_open.specs.Open.{new_memory, first_epoch, alone, fresh_state, blank_state, opened, open_of}
 use Rattle.call_sent.specs.Told.{put_sent, told_number, told_state, told_of}
-use Rattle.call_open.specs.Laws.{open_accepted}
-use Rattle.call_sent.specs.Laws.{told-accepted}
+use Rattle.call_open.proofs.Laws.{open_accepted}
+use Rattle.call_sent.proofs.Laws.{told-accepted}
 use Rattle.law_early.specs.Early.{Early}
 use Rattle.law_early.specs.Parts.{with_cur}
 

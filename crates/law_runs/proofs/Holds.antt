@@ -25,8 +25,8 @@ use Rattle.law_alike.specs.Due.{quiet-alike, wake-alike, held-alike}
 use Rattle.law_agree.specs.Replies.{woke_alike, status_alike}
 use Rattle.law_runs.specs.Agree.{poll-alike}
 use Rattle.poll.specs.Poll.{poll_of}
-use Rattle.poll.specs.Exact.{poll_exact}
-use Rattle.poll.specs.Laws.{poll-accepted, poll-ages, poll-still, poll-speaks}
+use Rattle.poll.proofs.Exact.{poll_exact}
+use Rattle.poll.proofs.Laws.{poll-accepted, poll-ages, poll-still, poll-speaks}
 use Rattle.law_runs.specs.Late.{poll-late}
 use Rattle.law_runs.specs.Runs.{Kind, poll, named, gave, back, Laws, Late, logged, goes_on, quiet, accepted, heard as heard_by}
 use Rattle.law_runs.specs.Served.{Name, no_buffers, answer_of}

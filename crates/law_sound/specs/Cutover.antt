@@ -12,7 +12,7 @@ use Rattle.epoch.specs.declared.MayLadder.{MayLadder}
 use Rattle.epoch.specs.declared.Epoch.{Epoch}
 use Rattle.candidates.specs.declared.Candidates.{Candidates}
 use Rattle.candidates.specs.Held.{cleared_of, firsts}
-use Rattle.candidates.specs.Laws.{cleared_len, cleared_once}
+use Rattle.candidates.proofs.Laws.{cleared_len, cleared_once}
 use Rattle.candidates.specs.Repeats.{repeated}
 use Rattle.state.specs.declared.State.{State}
 use Rattle.state.specs.declared.Given.{Given}

@@ -12,7 +12,7 @@ use Rattle.epoch.specs.Put.{put_fin, put_elicit, put_assumed, moved_fin, put_ep}
 use Rattle.cycle.specs.Kind.{is_init, is_pend_i, idled, waits_held, waits_evidence, waits_delay}
 use Rattle.cycle.specs.Put.{moved_init, with_fin, with_probes}
 use Rattle.candidates.specs.Held.{expire_of}
-use Rattle.candidates.specs.Laws.{expire_len, expire_once}
+use Rattle.candidates.proofs.Laws.{expire_len, expire_once}
 use Rattle.state.specs.declared.State.{State}
 use Rattle.state.specs.declared.Given.{Given}
 use Rattle.state.specs.Parts.{put_cur, put_cycle}

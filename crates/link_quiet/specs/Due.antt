@@ -6,17 +6,17 @@ use Rattle.time.specs.Time.{least, reached_of}
 use Rattle.ladder.specs.declared.Ladder.{Ladder}
 use Rattle.ladder.specs.Schedule.{Rung}
 use Rattle.ladder.specs.Ladder.{remaining, first_at, next_at_of, instant_of}
-use Rattle.ladder.specs.Laws.{next_instant}
+use Rattle.ladder.proofs.Laws.{next_instant}
 use Rattle.candidates.specs.Held.{held_of, between, firsts, earliest_of}
 use Rattle.candidates.specs.Repeats.{repeated, rises}
-use Rattle.candidates.specs.Places.{rises-once}
-use Rattle.candidates.specs.Places.{between_next, between-end}
+use Rattle.candidates.proofs.Places.{rises-once}
+use Rattle.candidates.proofs.Places.{between_next, between-end}
 use Rattle.state.specs.Parts.{listed}
 use Rattle.state.specs.declared.State.{State}
 use Rattle.start.specs.Start.{instants}
 use Rattle.wake.specs.Due.{ladder_instants, cycle_due, current_instants, standing, due_instants, any_due}
-use Rattle.wake.specs.Earliest.{earliest_nil, earliest_one, reached-append, reached-cons}
-use Rattle.wake.specs.Laws.{due-reached}
+use Rattle.wake.proofs.Earliest.{earliest_nil, earliest_one, reached-append, reached-cons}
+use Rattle.wake.proofs.Laws.{due-reached}
 
 pub ladder-least : (l : Ladder) → earliest_of (ladder_instants l) ≡ next_at_of l
 unfolding ladder_instants next_at_of

@@ -13,8 +13,10 @@ use Rattle.state.specs.declared.State.{State}
 use Rattle.state.specs.declared.Given.{Given}
 use Rattle.state.specs.Parts.{listed}
 use Rattle.refusal.specs.Refusal.{any_of, profile_bad, cands_bad, is_pending, epochs_bad_of, epochs_bad, tags_of, seqs_of, numbers_bad, spread_bad, extra_bad, Test, first, given_tests, state_tests, poll_tests, before_poll}
-use Rattle.refusal.specs.Standing.{pending_ep, shared_of, tags_bad, held_bad, cycle_bad, ladders-apart, tags-apart}
-use Rattle.refusal.specs.First.{or_left, or_right, or_none, rising, any_back, none-back, back_none}
+use Rattle.refusal.specs.Standing.{pending_ep, shared_of, tags_bad, held_bad, cycle_bad}
+use Rattle.refusal.proofs.Standing.{ladders-apart, tags-apart}
+use Rattle.refusal.specs.First.{rising, any_back}
+use Rattle.refusal.proofs.First.{or_left, or_right, or_none, none-back, back_none}
 use Rattle.start.specs.Start.{called_for}
 use Rattle.wake.specs.Due.{cycle_due, current_instants}
 use Rattle.wake.specs.Quiet.{teardown_stands, offer_owed, quiet_of}

@@ -1,3 +1,2 @@
 pub mod Notices
 pub mod Exact
-pub mod Answer

@@ -1,1 +1,4 @@
 mod Sums
+pub mod Laws
+pub mod Span
+pub mod Worked

@@ -1,4 +1,1 @@
 pub mod Params
-pub mod Laws
-pub mod Span
-pub mod Worked

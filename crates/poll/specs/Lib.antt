@@ -1,5 +1,3 @@
 pub mod Poll
-pub mod Answer
-pub mod Laws
 pub mod Exact
 pub mod Acts

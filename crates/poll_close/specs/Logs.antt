@@ -12,16 +12,16 @@ use Rattle.state.specs.declared.State.{State}
 use Rattle.state.specs.declared.Given.{Given}
 use Rattle.events.specs.Events.{Event, Teardown, Start}
 use Rattle.events.specs.Log.{Log, at, logged}
-use Rattle.events.specs.Laws.{logged-append}
+use Rattle.events.proofs.Laws.{logged-append}
 use Rattle.events.specs.Queries.{any_of, offers, offered_in}
-use Rattle.events.specs.Laws.{offered-answer}
+use Rattle.events.proofs.Laws.{offered-answer}
 use Rattle.events.specs.Withdraw.{given, withdrawn}
 use Rattle.answer.specs.Written.{over}
-use Rattle.answer.specs.Laws.{withdrawn-over}
+use Rattle.answer.proofs.Laws.{withdrawn-over}
 use Rattle.start.specs.Start.{start_kind, called_for}
 use Rattle.wake.specs.Wake.{exhausted}
 use Rattle.retire.specs.Retire.{delegate_out}
-use Rattle.retire.specs.Most.{only-most, delegate_most}
+use Rattle.retire.proofs.Most.{only-most, delegate_most}
 use Rattle.poll_close.specs.Closing.{idle_now, tests_out, ends_now, start_out, offer_out, offering, going, waits_for, sealing, unsealed, closing}
 
 -- the offer of an epoch, where the log holds none

@@ -11,7 +11,7 @@ use Rattle.numbers.specs.Numbers.{item_drain, item_candidate}
 use Rattle.candidates.specs.Held.{held_of, held_by, cand_at}
 use Rattle.items.specs.Items.{Item, item, insert, sorted, names, listed_in}
 use Rattle.items.specs.Arrays.{most, items_of, Inserted}
-use Rattle.items.specs.Laws.{items-end, length-items}
+use Rattle.items.proofs.Laws.{items-end, length-items}
 use Rattle.state.specs.declared.State.{State}
 use Rattle.state.specs.Parts.{listed}
 use Rattle.wake.specs.Due.{items_at, drain_items, candidate_items, cycle_items, current_items, named, is_due, due_items}

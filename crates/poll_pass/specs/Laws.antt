@@ -10,7 +10,7 @@ use Rattle.state.specs.declared.State.{State}
 use Rattle.state.specs.declared.Given.{Given}
 use Rattle.events.specs.Events.{Event}
 use Rattle.events.specs.Log.{at, logged}
-use Rattle.events.specs.Laws.{after-all}
+use Rattle.events.proofs.Laws.{after-all}
 use Rattle.poll_cut.specs.declared.Ran.{Ran}
 use Rattle.poll_cut.specs.Cut.{Step}
 use Rattle.poll_item.specs.Item.{item_step}

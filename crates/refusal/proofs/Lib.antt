@@ -1,2 +1,4 @@
 mod Signs
 mod Parts
+pub mod Standing
+pub mod First

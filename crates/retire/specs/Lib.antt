@@ -1,3 +1,1 @@
 pub mod Retire
-pub mod Most
-pub mod Laws

@@ -1,2 +1,4 @@
 mod Places
 mod Sums
+pub mod Accepted
+pub mod Worked

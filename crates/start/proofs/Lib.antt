@@ -1,2 +1,4 @@
 mod Signs
 mod Waits
+pub mod Laws
+pub mod Worked

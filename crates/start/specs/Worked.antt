@@ -1,6 +1,6 @@
 -- Document 01's own examples of the trigger and of the silence interval, by computing.
-use Rattle.std.specs.Prelude.{◌-◌, ◌^◌, ◌≡◌, refl, pos, negsuc}
-use Rattle.time.specs.Time.{factor_of, backoff_of, least, sat_add, later_of}
+use Rattle.std.specs.Prelude.{◌-◌, ◌^◌, ◌≡◌, pos, negsuc}
+use Rattle.time.specs.Time.{factor_of, backoff_of, least, later_of}
 use Rattle.start.specs.Start.{trigger_of}
 
 pub record Examples : Type 0 where
@@ -22,22 +22,3 @@ pub record Examples : Type 0 where
   pub count_31 : factor_of 31 ≡ 2147483648
   pub count_32 : factor_of 32 ≡ 4294967295
   pub count_255 : factor_of 255 ≡ 4294967295
-
-pub examples : Examples
-unfolding trigger_of sat_add later_of factor_of backoff_of least
-examples =
-    record {
-      fifteen = refl;
-      far-below = refl;
-      start_itself = refl;
-      fifteen-less = refl;
-      least-jitter = refl;
-      stops = refl;
-      count_0 = refl;
-      count_1 = refl;
-      count_2 = refl;
-      count_3 = refl;
-      count_31 = refl;
-      count_32 = refl;
-      count_255 = refl;
-    }

@@ -12,7 +12,7 @@ use Rattle.cycle.specs.declared.PendR.{PendR}
 use Rattle.cycle.specs.Kind.{is_init}
 use Rattle.candidates.specs.declared.Candidates.{Candidates}
 use Rattle.candidates.specs.Held.{held_of, cand_at, held_by}
-use Rattle.candidates.specs.Laws.{held-most}
+use Rattle.candidates.proofs.Laws.{held-most}
 use Rattle.state.specs.declared.State.{State}
 use Rattle.state.specs.Parts.{put_drain, put_cycle}
 use Rattle.state.specs.Stands.{candidate_view, candidates_view, cycle_view, ladder_view, stands}

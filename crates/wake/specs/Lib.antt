@@ -1,5 +1,4 @@
 pub mod Due
 pub mod Wake
 pub mod Quiet
-pub mod Earliest
 pub mod Laws

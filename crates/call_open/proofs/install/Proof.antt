@@ -1,5 +1,5 @@
 use Rattle.call_open.specs.Open.{install_out}
-use Rattle.events.specs.Laws.{logged-append}
+use Rattle.events.proofs.Laws.{logged-append}
 use Rattle.call_open.proofs.install.Statement.{statement}
 use Rattle.call_open.proofs.install.Tie as tie
 

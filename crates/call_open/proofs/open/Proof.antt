@@ -1,10 +1,11 @@
 use mathlib.Core.Path.{◌≡◌, ◌∙◌, ap}
 use mir.Facts.{to_z-of_z}
 use Rattle.refusal.specs.Refusal.{before_open}
-use Rattle.answer.specs.Answers.{back_with, answers_back}
+use Rattle.answer.specs.Answers.{back_with}
+use Rattle.answer.proofs.Answers.{answers_back}
 use Rattle.call_open.specs.Open.{open_of}
-use Rattle.call_open.specs.Answer.{open-on}
-use Rattle.call_open.specs.Exact.{open_exact}
+use Rattle.call_open.proofs.Answer.{open-on}
+use Rattle.call_open.proofs.Exact.{open_exact}
 use Rattle.call_open.proofs.open.Statement.{statement}
 use Rattle.call_open.proofs.open.Tie as tie
 

@@ -1,5 +1,5 @@
 use Rattle.call_read.specs.Read.{quiet_time, status_of}
-use Rattle.call_read.specs.Exact.{status_exact}
+use Rattle.call_read.proofs.Exact.{status_exact}
 use borrow.Author.Tests.{eq-eqb, ne_eqb}
 use Rattle.call_read.proofs.status.Statement.{statement}
 use Rattle.call_read.proofs.status.Tie as tie

@@ -1,5 +1,5 @@
 use Rattle.call_read.specs.Read.{woke_of}
-use Rattle.call_read.specs.Exact.{wake_exact}
+use Rattle.call_read.proofs.Exact.{wake_exact}
 use borrow.Author.Tests.{eq-eqb, ne_eqb}
 use Rattle.call_read.proofs.wake.Statement.{statement}
 use Rattle.call_read.proofs.wake.Tie as tie

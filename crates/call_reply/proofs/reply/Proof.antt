@@ -1,9 +1,9 @@
 use mathlib.Core.Path.{sym, ap}
 use mathlib.Core.List.{[]}
 use Rattle.answer.specs.Outcome.{done}
-use Rattle.answer.specs.Answers.{answers_back, answers_unlent}
+use Rattle.answer.proofs.Answers.{answers_back, answers_unlent}
 use Rattle.call_reply.specs.Reply.{reply_of}
-use Rattle.call_reply.specs.Exact.{reply_exact}
+use Rattle.call_reply.proofs.Exact.{reply_exact}
 use Rattle.call_reply.proofs.reply.Statement.{statement}
 use Rattle.call_reply.proofs.reply.Tie as tie
 

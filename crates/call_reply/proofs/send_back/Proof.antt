@@ -1,5 +1,5 @@
 use borrow.Author.Tests.{eq-eqb, ne_eqb}
-use Rattle.call_reply.specs.Laws.{reply-refused}
+use Rattle.call_reply.proofs.Laws.{reply-refused}
 use Rattle.call_reply.proofs.send_back.Statement.{statement}
 use Rattle.call_reply.proofs.send_back.Tie as tie
 

@@ -2,9 +2,9 @@ use mathlib.Core.Path.{sym, ap}
 use mathlib.Core.List.{[]}
 use Rattle.refusal.specs.Refusal.{numbered}
 use Rattle.answer.specs.Outcome.{done}
-use Rattle.answer.specs.Answers.{answers_back, answers_unlent}
+use Rattle.answer.proofs.Answers.{answers_back, answers_unlent}
 use Rattle.call_sent.specs.Told.{told_of}
-use Rattle.call_sent.specs.Exact.{told_exact}
+use Rattle.call_sent.proofs.Exact.{told_exact}
 use Rattle.call_sent.proofs.told.Statement.{statement}
 use Rattle.call_sent.proofs.told.Tie as tie
 

@@ -1,4 +1,4 @@
-use Rattle.call_sent.specs.Laws.{told-number}
+use Rattle.call_sent.proofs.Laws.{told-number}
 use borrow.Author.Tests.{eq-eqb, ne_eqb}
 use Rattle.call_sent.proofs.told_back.Statement.{statement}
 use Rattle.call_sent.proofs.told_back.Tie as tie

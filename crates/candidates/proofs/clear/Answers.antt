@@ -1,6 +1,6 @@
 use mathlib.Core.Path.{refl}
 use Rattle.candidates.specs.Held.{chosen, choosing, cleared_of}
-use Rattle.candidates.specs.Laws.{held_cleared}
+use Rattle.candidates.proofs.Laws.{held_cleared}
 use Rattle.candidates.proofs.clear.Goals as goal
 
 pub returns : goal.returns

@@ -4,7 +4,8 @@ use native.Mathlib.Omega.{arith}
 use borrow.Author.Rules.{rules}
 use lib.ListN.{length, length-set}
 use Rattle.candidates.specs.Held.{chosen, others}
-use Rattle.candidates.specs.Places.{shifting, shifting-step, shifting-done, shifting-all}
+use Rattle.candidates.specs.Places.{shifting}
+use Rattle.candidates.proofs.Places.{shifting-step, shifting-done, shifting-all}
 use Rattle.candidates.proofs.drop_at.Given as goal
 
 -- What is left to move from place j on is what was to be moved.

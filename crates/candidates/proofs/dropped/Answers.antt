@@ -1,7 +1,7 @@
 use borrow.Author.Rules.{rules}
 use native.Mathlib.Omega.{arith}
 use Rattle.candidates.specs.Held.{choosing}
-use Rattle.candidates.specs.Laws.{length-others}
+use Rattle.candidates.proofs.Laws.{length-others}
 use Rattle.candidates.proofs.dropped.Goals as goal
 
 -- Each array is moved by itself, and the count is one less.

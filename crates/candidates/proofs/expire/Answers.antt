@@ -5,7 +5,7 @@ use borrow.Author.Rules.{rules}
 use borrow.Author.Tests.{le-leb, lt-leb}
 use lib.Dec.{leb}
 use Rattle.candidates.specs.Held.{leaving, expire_of}
-use Rattle.candidates.specs.Laws.{held-most, removed_here, expired-here, expired-none}
+use Rattle.candidates.proofs.Laws.{held-most, removed_here, expired-here, expired-none}
 use Rattle.candidates.proofs.expire.Goals as goal
 
 pub find-i-requires : goal.find-i-requires

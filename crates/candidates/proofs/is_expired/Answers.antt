@@ -3,7 +3,7 @@ use mathlib.Core.Path.{sym, ◌∙◌, ap}
 use native.Mathlib.Omega.{arith}
 use borrow.Author.Rules.{rules}
 use lib.Dec.{leb}
-use Rattle.candidates.specs.Laws.{held-most, expired-here, expired-none}
+use Rattle.candidates.proofs.Laws.{held-most, expired-here, expired-none}
 use Rattle.candidates.proofs.is_expired.Goals as goal
 
 pub find-i-requires : goal.find-i-requires

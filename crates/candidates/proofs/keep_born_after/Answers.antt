@@ -2,7 +2,7 @@ use mathlib.Core.Path.{◌≡◌, ◌∙◌, ap}
 use borrow.Author.Rules.{rules}
 use lib.ListN.{length}
 use Rattle.candidates.specs.Held.{held_by, chosen, choosing, kept_after, younger}
-use Rattle.candidates.specs.Laws.{held-most, held_kept}
+use Rattle.candidates.proofs.Laws.{held-most, held_kept}
 use Rattle.candidates.proofs.keep_born_after.Goals as goal
 
 -- Each array keeps the same places, those whose birth is after the instant.

@@ -10,7 +10,8 @@ use borrow.Author.Tests.{lt-ltb, le-ltb}
 use lib.Dec.{ltb}
 use lib.ListN.{length, get_or, length-set}
 use Rattle.candidates.specs.Held.{chosen, younger}
-use Rattle.candidates.specs.Places.{moved, moved-done, moved_all, keeping, keeping_in, keeping-out, keeping-end, keeping_all, packed_in}
+use Rattle.candidates.specs.Places.{moved, keeping}
+use Rattle.candidates.proofs.Places.{moved-done, moved_all, keeping_in, keeping-out, keeping-end, keeping_all, packed_in}
 use Rattle.candidates.proofs.pack.Given as goal
 
 -- the test of a place

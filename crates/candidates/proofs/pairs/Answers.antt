@@ -3,7 +3,7 @@ use mathlib.Core.Path.{◌≡◌, refl, sym, ◌∙◌}
 use borrow.Author.Rules.{rules}
 use Rattle.candidates.specs.Held.{between}
 use Rattle.candidates.specs.Repeats.{repeated}
-use Rattle.candidates.specs.Places.{pair-here, pair-on, pair-none}
+use Rattle.candidates.proofs.Places.{pair-here, pair-on, pair-none}
 use Rattle.candidates.proofs.pairs.Goals as goal
 
 pub loop-i-init : goal.loop-i-init

@@ -1,7 +1,7 @@
 use mathlib.Core.Path.{◌∙◌, ap}
 use borrow.Author.Rules.{rules}
 use Rattle.candidates.specs.Held.{held_by}
-use Rattle.candidates.specs.Laws.{held-most, held_removed, removed_here, removed_none}
+use Rattle.candidates.proofs.Laws.{held-most, held_removed, removed_here, removed_none}
 use Rattle.candidates.proofs.remove.Goals as goal
 
 pub find-i-requires : goal.find-i-requires

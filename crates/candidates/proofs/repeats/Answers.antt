@@ -1,7 +1,7 @@
 use mathlib.Core.Path.{sym, ◌∙◌}
 use borrow.Author.Rules.{rules}
-use Rattle.candidates.specs.Laws.{held-most}
-use Rattle.candidates.specs.Places.{rises-once}
+use Rattle.candidates.proofs.Laws.{held-most}
+use Rattle.candidates.proofs.Places.{rises-once}
 use Rattle.candidates.proofs.repeats.Goals as goal
 
 pub rising-requires : goal.rising-requires

@@ -3,7 +3,7 @@ use mathlib.Core.Path.{◌≡◌, sym, ◌∙◌}
 use borrow.Author.Rules.{rules}
 use Rattle.candidates.specs.Held.{between}
 use Rattle.candidates.specs.Repeats.{rises, rises_from}
-use Rattle.candidates.specs.Places.{rising-start, rising-on, rising_not, rising-end}
+use Rattle.candidates.proofs.Places.{rising-start, rising-on, rising_not, rising-end}
 use Rattle.candidates.proofs.rising.Goals as goal
 
 pub loop-i-init : goal.loop-i-init

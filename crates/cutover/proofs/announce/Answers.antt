@@ -1,5 +1,5 @@
 use Rattle.cutover.specs.Cutover.{announced}
-use Rattle.events.specs.Laws.{logged-append}
+use Rattle.events.proofs.Laws.{logged-append}
 use Rattle.cutover.proofs.announce.Goals as goal
 
 pub returns : goal.returns

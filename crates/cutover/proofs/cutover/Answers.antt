@@ -1,5 +1,5 @@
 use Rattle.cutover.specs.Cutover.{cutover_of}
-use Rattle.events.specs.Laws.{logged-append}
+use Rattle.events.proofs.Laws.{logged-append}
 use mir.Facts.{to_z-of_z}
 use Rattle.cutover.proofs.cutover.Goals as goal
 

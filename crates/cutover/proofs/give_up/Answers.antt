@@ -1,6 +1,6 @@
 use Rattle.events.specs.Log.{at}
 use Rattle.retire.specs.Retire.{retire_out}
-use Rattle.events.specs.Laws.{after-all}
+use Rattle.events.proofs.Laws.{after-all}
 use mathlib.Core.Path.{refl}
 use mathlib.Core.List.{[]}
 use Rattle.cutover.specs.Cutover.{given_up}

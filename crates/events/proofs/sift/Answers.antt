@@ -1,5 +1,5 @@
 use mathlib.Core.Path.{sym, ◌∙◌}
-use Rattle.events.specs.Laws.{sifted-moves, sifted_drops}
+use Rattle.events.proofs.Laws.{sifted-moves, sifted_drops}
 use borrow.Author.Rules.{rules}
 use Rattle.events.proofs.sift.Goals as goal
 

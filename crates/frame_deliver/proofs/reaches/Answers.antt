@@ -2,7 +2,7 @@ use Prim.Native.Nat.{◌+◌, ◌<◌}
 use native.Mathlib.Omega.{arith}
 use borrow.Author.Tests.{le-leb, lt-leb}
 use Rattle.frame_deliver.specs.Deliver.{reaches}
-use Rattle.frame_deliver.specs.Laws.{room-left}
+use Rattle.frame_deliver.proofs.Laws.{room-left}
 use Rattle.frame_deliver.proofs.reaches.Goals as goal
 
 pub returns-then-n-floor : goal.returns-then-n-floor

@@ -1,5 +1,5 @@
 use Rattle.frame_hear.specs.Hear.{assumed_heard}
-use Rattle.events.specs.Laws.{logged-append}
+use Rattle.events.proofs.Laws.{logged-append}
 use borrow.Author.Tests.{eq-eqb, ne_eqb}
 use Rattle.frame_hear.proofs.hear_assumed.Goals as goal
 

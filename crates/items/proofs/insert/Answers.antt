@@ -4,7 +4,7 @@ use borrow.Author.Rules.{rules}
 use borrow.Author.Tests.{lt-ltb, le-ltb}
 use Rattle.items.specs.Items.{item}
 use Rattle.items.specs.Arrays.{most, Wide}
-use Rattle.items.specs.Laws.{place-within, inserted}
+use Rattle.items.proofs.Laws.{place-within, inserted}
 use Rattle.items.proofs.insert.Goals as goal
 
 pub returns-then-n-ge40 : goal.returns-then-n-ge40

@@ -4,7 +4,7 @@ use borrow.Author.Rules.{rules}
 use Rattle.time.specs.Laws.{least-le}
 use Rattle.items.specs.Items.{item, listed_in}
 use Rattle.items.specs.Arrays.{list_from, most_listed}
-use Rattle.items.specs.Laws.{listed_here, listed-on, listed-end}
+use Rattle.items.proofs.Laws.{listed_here, listed-on, listed-end}
 use Rattle.items.proofs.listed.Given as goal
 
 -- Whether the item is listed from place i on is whether it is listed.

@@ -5,7 +5,7 @@ use borrow.Author.Rules.{rules}
 use borrow.Author.Tests.{lt-ltb, le-ltb}
 use Rattle.items.specs.Items.{item}
 use Rattle.items.specs.Arrays.{most_listed}
-use Rattle.items.specs.Laws.{noted}
+use Rattle.items.proofs.Laws.{noted}
 use Rattle.items.proofs.note.Goals as goal
 
 pub returns-then-n-ge120 : goal.returns-then-n-ge120

@@ -5,7 +5,7 @@ use native.Mathlib.Omega.{arith}
 use borrow.Author.Rules.{rules}
 use Rattle.items.specs.Items.{item}
 use Rattle.items.specs.Arrays.{items_from, place_for}
-use Rattle.items.specs.Laws.{put-here, put_on, put-end}
+use Rattle.items.proofs.Laws.{put-here, put_on, put-end}
 use Rattle.items.proofs.place.Goals as goal
 
 pub loop-i-init : goal.loop-i-init

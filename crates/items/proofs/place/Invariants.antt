@@ -5,7 +5,7 @@ use native.Mathlib.Omega.{arith}
 use borrow.Author.Rules.{rules}
 use Rattle.items.specs.Items.{item}
 use Rattle.items.specs.Arrays.{items_from, place_for}
-use Rattle.items.specs.Laws.{put-here, put_on, put-end}
+use Rattle.items.proofs.Laws.{put-here, put_on, put-end}
 use Rattle.items.proofs.place.Given as goal
 
 -- Where the item is put from place i on is where it is put.

@@ -4,7 +4,7 @@ use native.Mathlib.Omega.{arith}
 use borrow.Author.Rules.{rules}
 use lib.ListN.{length, length-set}
 use Rattle.items.specs.Arrays.{most, opened}
-use Rattle.items.specs.Laws.{opened-step, opened-done}
+use Rattle.items.proofs.Laws.{opened-step, opened-done}
 use Rattle.items.proofs.put_at.Goals as goal
 
 pub loop-j-init : goal.loop-j-init

@@ -1,5 +1,5 @@
 use mir.Facts.{to_z-of_z}
-use Rattle.frame.specs.Exact.{frame-exact}
+use Rattle.frame.proofs.Exact.{frame-exact}
 use Rattle.law_runs.proofs.Holds.{two_runs}
 use borrow.Author.Rules.{rules}
 use Rattle.link.proofs.siklyavon_frame.Statement.{statement}

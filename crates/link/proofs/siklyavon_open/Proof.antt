@@ -1,5 +1,5 @@
 use mir.Facts.{to_z-of_z}
-use Rattle.call_open.specs.Exact.{open_exact}
+use Rattle.call_open.proofs.Exact.{open_exact}
 use Rattle.link.proofs.siklyavon_open.Statement.{statement}
 use Rattle.link.proofs.siklyavon_open.Tie as tie
 

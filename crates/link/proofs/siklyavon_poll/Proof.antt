@@ -1,6 +1,6 @@
 use mir.Facts.{to_z-of_z}
-use Rattle.poll.specs.Exact.{poll_exact}
-use Rattle.poll.specs.Acts.{poll_acts}
+use Rattle.poll.proofs.Exact.{poll_exact}
+use Rattle.poll.proofs.Acts.{poll_acts}
 use Rattle.law_runs.proofs.Holds.{two_runs}
 use Rattle.link.proofs.siklyavon_poll.Statement.{statement}
 use Rattle.link.proofs.siklyavon_poll.Tie as tie

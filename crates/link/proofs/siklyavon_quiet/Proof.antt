@@ -42,7 +42,8 @@ use denote.Triple.Walked.{says, Stays, stay_none_ref, stay_none, walk_of, AllGo,
 use denote.Triple.Clauses.{ensured, lasts}
 use denote.Exit.{yes}
 use Rattle.link_quiet.specs.Busy.{first_busy, alone_of, other_busy}
-use Rattle.link.specs.Quiet.{Tells, tells_busy, tells-alone, tells-other}
+use Rattle.link.specs.Quiet.{Tells}
+use Rattle.link.proofs.Quiet.{tells_busy, tells-alone, tells-other}
 use Rattle.state.specs.declared.State.{State}
 use Rattle.state.specs.declared.Given as gives
 use Rattle.state.specs.contracts.State as T

@@ -1,5 +1,5 @@
 use mir.Facts.{to_z-of_z}
-use Rattle.notice.specs.Exact.{notice_exact}
+use Rattle.notice.proofs.Exact.{notice_exact}
 use Rattle.law_runs.proofs.Holds.{two_runs}
 use Rattle.link.proofs.siklyavon_undelegated.Statement.{statement}
 use Rattle.link.proofs.siklyavon_undelegated.Tie as tie

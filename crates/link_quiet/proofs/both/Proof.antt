@@ -7,7 +7,7 @@ use borrow.Author.Tests.{le-leb, lt-leb}
 use Rattle.time.specs.Time.{reached_of}
 use Rattle.candidates.specs.Held.{between, earliest_of}
 use Rattle.candidates.specs.Repeats.{rises, rises_from}
-use Rattle.candidates.specs.Places.{rising-start, rising-on, rising-end}
+use Rattle.candidates.proofs.Places.{rising-start, rising-on, rising-end}
 use Rattle.link_quiet.specs.Due.{here, there, past, found, none_found}
 use Rattle.link_quiet.proofs.both.Statement.{statement}
 use Rattle.link_quiet.proofs.both.Tie as tie

@@ -1,5 +1,5 @@
 use Rattle.wake.specs.Due.{elicit_instants}
-use Rattle.wake.specs.Earliest.{reached-append}
+use Rattle.wake.proofs.Earliest.{reached-append}
 use Rattle.link_quiet.specs.Due.{nothing-due}
 use Rattle.link_quiet.proofs.current_due.Statement.{statement}
 use Rattle.link_quiet.proofs.current_due.Tie as tie

@@ -1,5 +1,5 @@
 use Rattle.wake.specs.Due.{cycle_due}
-use Rattle.wake.specs.Earliest.{reached-append}
+use Rattle.wake.proofs.Earliest.{reached-append}
 use Rattle.link_quiet.specs.Due.{nothing-due}
 use Rattle.link_quiet.specs.Due.{one-due}
 use borrow.Author.Tests.{eq-eqb, ne_eqb}

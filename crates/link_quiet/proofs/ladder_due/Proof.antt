@@ -2,7 +2,7 @@ use borrow.Author.Rules.{rules}
 use borrow.Author.Tests.{lt-ltb, le-ltb}
 use native.Mathlib.Omega.{arith}
 use Rattle.ladder.specs.Schedule.{max_rungs}
-use Rattle.ladder.specs.Rungs.{held-most}
+use Rattle.ladder.proofs.Rungs.{held-most}
 use Rattle.ladder.specs.Ladder.{instant_of}
 use Rattle.link_quiet.specs.Due.{rung-due}
 use Rattle.link_quiet.proofs.ladder_due.Statement.{statement}

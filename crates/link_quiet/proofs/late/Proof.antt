@@ -4,7 +4,7 @@ use borrow.Author.Rules.{rules}
 use borrow.Author.Tests.{le-leb, lt-leb}
 use Rattle.time.specs.Time.{reached_of}
 use Rattle.candidates.specs.Held.{between, earliest_of}
-use Rattle.candidates.specs.Laws.{held-most}
+use Rattle.candidates.proofs.Laws.{held-most}
 use Rattle.link_quiet.specs.Due.{here, there, past}
 use Rattle.link_quiet.proofs.late.Statement.{statement}
 use Rattle.link_quiet.proofs.late.Tie as tie

@@ -1,4 +1,4 @@
-use Rattle.wake.specs.Earliest.{earliest_nil, earliest_one}
+use Rattle.wake.proofs.Earliest.{earliest_nil, earliest_one}
 use Rattle.link_quiet.proofs.over.Statement.{statement}
 use Rattle.link_quiet.proofs.over.Tie as tie
 

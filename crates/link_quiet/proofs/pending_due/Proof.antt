@@ -1,5 +1,5 @@
 use Rattle.wake.specs.Due.{pending_due}
-use Rattle.wake.specs.Earliest.{reached-append}
+use Rattle.wake.proofs.Earliest.{reached-append}
 use Rattle.link_quiet.specs.Due.{one-due}
 use borrow.Author.Tests.{eq-eqb, ne_eqb}
 use Rattle.link_quiet.proofs.pending_due.Statement.{statement}

@@ -1,4 +1,4 @@
-use Rattle.refusal.specs.Standing.{tags-apart}
+use Rattle.refusal.proofs.Standing.{tags-apart}
 use Rattle.link_quiet.proofs.tags_repeat.Statement.{statement}
 use Rattle.link_quiet.proofs.tags_repeat.Tie as tie
 

@@ -2,7 +2,7 @@ use mathlib.Core.Path.{◌≡◌, refl}
 use native.Mathlib.Omega.{arith}
 use mir.Facts.{to_z-of_z}
 use Rattle.refusal.specs.Refusal.{before_frame}
-use Rattle.notice.specs.Answer.{notice_back, notice-on}
+use Rattle.notice.proofs.Answer.{notice_back, notice-on}
 use Rattle.notice.proofs.path.Statement.{statement}
 use Rattle.notice.proofs.path.Tie as tie
 

@@ -2,8 +2,8 @@ use mathlib.Core.Path.{◌≡◌}
 use native.Mathlib.Omega.{arith}
 use mir.Facts.{to_z-of_z}
 use Rattle.refusal.specs.Refusal.{before_frame}
-use Rattle.notice_rows.specs.Most.{worker-most}
-use Rattle.notice.specs.Answer.{notice_back, notice-on}
+use Rattle.notice_rows.proofs.Most.{worker-most}
+use Rattle.notice.proofs.Answer.{notice_back, notice-on}
 use Rattle.notice.proofs.worker.Statement.{statement}
 use Rattle.notice.proofs.worker.Tie as tie
 

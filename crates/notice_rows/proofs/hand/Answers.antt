@@ -1,6 +1,6 @@
 use mathlib.Core.Path.{refl, sym, ◌∙◌}
 use Rattle.notice_rows.specs.Rows.{handed}
-use Rattle.notice_rows.specs.Laws.{did-current, did-previous, did-elsewhere}
+use Rattle.notice_rows.proofs.Laws.{did-current, did-previous, did-elsewhere}
 use Rattle.notice_rows.proofs.hand.Goals as goal
 
 pub returns-then-already : goal.returns-then-already

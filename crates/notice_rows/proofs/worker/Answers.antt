@@ -1,6 +1,6 @@
 use mathlib.Core.Path.{sym, ◌∙◌}
 use Rattle.notice_rows.specs.Rows.{worker_of}
-use Rattle.notice_rows.specs.Laws.{did-current, did-previous, did-elsewhere}
+use Rattle.notice_rows.proofs.Laws.{did-current, did-previous, did-elsewhere}
 use Rattle.notice_rows.proofs.worker.Goals as goal
 
 pub returns-then-is_tag : goal.returns-then-is_tag

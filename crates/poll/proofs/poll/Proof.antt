@@ -1,7 +1,7 @@
 use mir.Facts.{to_z-of_z}
-use Rattle.poll.specs.Answer.{poll-back, poll-on}
-use Rattle.poll.specs.Exact.{poll_exact}
-use Rattle.poll.specs.Acts.{poll_acts}
+use Rattle.poll.proofs.Answer.{poll-back, poll-on}
+use Rattle.poll.proofs.Exact.{poll_exact}
+use Rattle.poll.proofs.Acts.{poll_acts}
 use Rattle.poll.proofs.poll.Statement.{statement}
 use Rattle.poll.proofs.poll.Tie as tie
 

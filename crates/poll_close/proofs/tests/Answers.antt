@@ -1,5 +1,5 @@
 use Rattle.poll_close.specs.Closing.{tests_out, ends_now}
-use Rattle.events.specs.Laws.{logged-append}
+use Rattle.events.proofs.Laws.{logged-append}
 use Rattle.poll_close.proofs.tests.Goals as goal
 
 pub returns : goal.returns

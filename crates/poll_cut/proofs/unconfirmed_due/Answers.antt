@@ -1,6 +1,6 @@
 use mathlib.Core.Path.{refl}
 use Rattle.poll_cut.specs.Cut.{unconfirmed}
-use Rattle.events.specs.Laws.{logged-append}
+use Rattle.events.proofs.Laws.{logged-append}
 use Rattle.poll_cut.proofs.unconfirmed_due.Goals as goal
 
 pub returns : goal.returns

@@ -1,6 +1,6 @@
 use Rattle.poll_cycle.specs.CycleRows.{expire_due}
 use mathlib.Core.List.{append-nil}
-use Rattle.events.specs.Laws.{logged-append}
+use Rattle.events.proofs.Laws.{logged-append}
 use Rattle.poll_cycle.proofs.expire_due.Goals as goal
 
 pub returns-then-alone : goal.returns-then-alone

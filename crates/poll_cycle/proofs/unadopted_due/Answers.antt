@@ -1,5 +1,5 @@
 use Rattle.poll_cycle.specs.CycleRows.{unadopted_due}
-use Rattle.events.specs.Laws.{logged-append}
+use Rattle.events.proofs.Laws.{logged-append}
 use Rattle.poll_cycle.proofs.unadopted_due.Goals as goal
 
 pub returns-then-c : goal.returns-then-c

@@ -1,6 +1,6 @@
 use Rattle.poll_epoch.specs.EpochRows.{drain_due}
 use mathlib.Core.List.{append-nil}
-use Rattle.events.specs.Laws.{logged-append}
+use Rattle.events.proofs.Laws.{logged-append}
 use Rattle.poll_epoch.proofs.drain_due.Goals as goal
 
 pub returns-then-d : goal.returns-then-d

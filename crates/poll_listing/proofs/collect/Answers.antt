@@ -1,6 +1,6 @@
 use native.Mathlib.Omega.{arith}
 use borrow.Author.Rules.{rules}
-use Rattle.candidates.specs.Laws.{held-most}
+use Rattle.candidates.proofs.Laws.{held-most}
 use Rattle.poll_listing.specs.Laws.{offer-then, parts-named, collected}
 use Rattle.poll_listing.proofs.collect.Goals as goal
 

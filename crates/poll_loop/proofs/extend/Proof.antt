@@ -5,7 +5,7 @@ use mathlib.Core.List.{◌++◌, append-nil}
 use native.Mathlib.Omega.{arith}
 use Rattle.items.specs.Arrays.{most_listed, list_of, list_from}
 use Rattle.poll_pass.specs.Laws.{list-end}
-use Rattle.poll_loop.specs.Laws.{note-turn, note_count}
+use Rattle.poll_loop.proofs.Laws.{note-turn, note_count}
 use borrow.Author.Rules.{rules}
 use Rattle.poll_loop.proofs.extend.Statement.{statement}
 use Rattle.poll_loop.proofs.extend.Tie as tie

@@ -4,7 +4,7 @@ use native.Mathlib.Omega.{arith}
 use mir.Facts.{to_z-of_z}
 use mir.Syntax.{w32}
 use mir.Val.{to_z}
-use Rattle.poll_loop.specs.Laws.{Along, along_start, along_over, along_ended, along_none, along-next}
+use Rattle.poll_loop.proofs.Laws.{Along, along_start, along_over, along_ended, along_none, along-next}
 use Rattle.poll_loop.proofs.passes.Statement.{statement}
 use Rattle.poll_loop.proofs.passes.Tie as tie
 

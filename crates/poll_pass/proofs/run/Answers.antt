@@ -1,8 +1,6 @@
+use mir.Facts.{to_z-of_z}
 use Prim.Native.Nat.{◌-◌}
 use native.Mathlib.Omega.{arith}
-use mir.Facts.{to_z-of_z}
-use mir.Syntax.{w32}
-use mir.Val.{to_z}
 use Rattle.time.specs.Laws.{least-le}
 use Rattle.items.specs.Arrays.{most}
 use Rattle.poll_pass.specs.Laws.{Along, along_start, along-next, along_done}

@@ -1,8 +1,5 @@
 use Prim.Native.Nat.{◌-◌}
 use native.Mathlib.Omega.{arith}
-use mir.Facts.{to_z-of_z}
-use mir.Syntax.{w32}
-use mir.Val.{to_z}
 use Rattle.time.specs.Laws.{least-le}
 use Rattle.items.specs.Arrays.{most}
 use Rattle.poll_pass.specs.Laws.{Along, along_start, along-next, along_done}
@@ -10,7 +7,7 @@ use Rattle.poll_pass.proofs.run.Given as goal
 
 -- What is left of the pass from place i on, after the work so far, gives the whole pass.
 abbrev pub invariant-loop-i : goal.invariant-loop-i
-invariant-loop-i l = Along l.g (to_z w32 l.spread) l.kind l.key l.count l.initial.st l.initial.m l.initial.ends l.initial.log l.i l.st l.m l.ends l.log
+invariant-loop-i l = Along l.g l.spread l.kind l.key l.count l.initial.st l.initial.m l.initial.ends l.initial.log l.i l.st l.m l.ends l.log
 
 abbrev pub decreases-loop-i : goal.decreases-loop-i
 decreases-loop-i l = l.count - l.i

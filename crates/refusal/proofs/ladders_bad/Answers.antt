@@ -1,4 +1,4 @@
-use Rattle.refusal.specs.Standing.{ladders-apart}
+use Rattle.refusal.proofs.Standing.{ladders-apart}
 use Rattle.refusal.proofs.ladders_bad.Goals as goal
 
 pub returns-then-cycle_bad : goal.returns-then-cycle_bad

@@ -1,5 +1,5 @@
 use Rattle.refusal.specs.Refusal.{numbers_bad}
-use Rattle.refusal.specs.Standing.{tags-apart}
+use Rattle.refusal.proofs.Standing.{tags-apart}
 use Rattle.refusal.proofs.numbers_bad.Goals as goal
 
 pub returns-then-tags_bad : goal.returns-then-tags_bad

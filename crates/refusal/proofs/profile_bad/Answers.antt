@@ -1,4 +1,4 @@
-use Rattle.refusal.specs.First.{or_true}
+use Rattle.refusal.proofs.First.{or_true}
 use Rattle.refusal.specs.Refusal.{profile_bad}
 use borrow.Author.Tests.{le-leb, lt-ltb, le-ltb, eq-eqb, ne_eqb}
 use Rattle.refusal.proofs.profile_bad.Goals as goal

@@ -1,4 +1,4 @@
-use Rattle.wake.specs.Laws.{due-reached}
+use Rattle.wake.proofs.Laws.{due-reached}
 use Rattle.wake.proofs.any_due.Goals as goal
 
 pub returns : goal.returns

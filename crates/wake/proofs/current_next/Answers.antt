@@ -1,7 +1,7 @@
 use Rattle.wake.specs.Due.{elicit_instants}
 use mathlib.Core.List.{append-nil}
-use Rattle.wake.specs.Earliest.{earliest_nil}
-use Rattle.wake.specs.Earliest.{earliest_append}
+use Rattle.wake.proofs.Earliest.{earliest_nil}
+use Rattle.wake.proofs.Earliest.{earliest_append}
 use Rattle.wake.proofs.current_next.Goals as goal
 
 pub returns-then-moved : goal.returns-then-moved

@@ -1,8 +1,8 @@
 use mathlib.Core.Path.{◌∙◌}
 use Rattle.wake.proofs.Parts.{rest-next}
 use Rattle.wake.specs.Wake.{cycle_instants}
-use Rattle.wake.specs.Earliest.{earliest_one}
-use Rattle.wake.specs.Earliest.{earliest_append}
+use Rattle.wake.proofs.Earliest.{earliest_one}
+use Rattle.wake.proofs.Earliest.{earliest_append}
 use borrow.Author.Tests.{eq-eqb, ne_eqb}
 use Rattle.wake.proofs.cycle_next.Goals as goal
 

@@ -1,5 +1,5 @@
 use Rattle.wake.specs.Due.{fin_instants}
-use Rattle.wake.specs.Earliest.{earliest_nil}
+use Rattle.wake.proofs.Earliest.{earliest_nil}
 use Rattle.wake.proofs.fin_next.Goals as goal
 
 pub returns-then-f : goal.returns-then-f

@@ -1,5 +1,5 @@
-use Rattle.wake.specs.Earliest.{earliest_nil}
-use Rattle.wake.specs.Earliest.{earliest_one}
+use Rattle.wake.proofs.Earliest.{earliest_nil}
+use Rattle.wake.proofs.Earliest.{earliest_one}
 use Rattle.wake.proofs.given.Goals as goal
 
 pub returns-then-some : goal.returns-then-some

@@ -1,5 +1,5 @@
 use Rattle.wake.specs.Due.{may_instants}
-use Rattle.wake.specs.Earliest.{earliest_nil}
+use Rattle.wake.proofs.Earliest.{earliest_nil}
 use Rattle.wake.proofs.may_next.Goals as goal
 
 pub returns-then-m : goal.returns-then-m

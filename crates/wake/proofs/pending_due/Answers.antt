@@ -1,6 +1,6 @@
 use Rattle.wake.specs.Due.{pending_due}
-use Rattle.wake.specs.Earliest.{earliest_one}
-use Rattle.wake.specs.Earliest.{earliest_append}
+use Rattle.wake.proofs.Earliest.{earliest_one}
+use Rattle.wake.proofs.Earliest.{earliest_append}
 use borrow.Author.Tests.{eq-eqb, ne_eqb}
 use Rattle.wake.proofs.pending_due.Goals as goal
 

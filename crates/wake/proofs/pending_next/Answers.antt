@@ -1,5 +1,5 @@
-use Rattle.wake.specs.Earliest.{earliest_cons}
-use Rattle.wake.specs.Earliest.{earliest_append}
+use Rattle.wake.proofs.Earliest.{earliest_cons}
+use Rattle.wake.proofs.Earliest.{earliest_append}
 use Rattle.wake.proofs.pending_next.Goals as goal
 
 pub returns : goal.returns

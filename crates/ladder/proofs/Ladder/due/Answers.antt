@@ -1,6 +1,6 @@
 use mathlib.Core.Path.{refl, ◌∙◌, ap}
 use Rattle.time.specs.Time.{reached_of}
-use Rattle.ladder.specs.Laws.{next_instant}
+use Rattle.ladder.proofs.Laws.{next_instant}
 use Rattle.ladder.specs.Ladder.{due_of}
 use Rattle.ladder.proofs.Ladder.due.Goals as goal
 

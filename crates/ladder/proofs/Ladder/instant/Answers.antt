@@ -2,7 +2,7 @@ use borrow.Author.Rules.{rules}
 use native.Mathlib.Omega.{arith}
 use borrow.Author.Tests.{lt-ltb, le-ltb}
 use Rattle.ladder.specs.Schedule.{max_rungs}
-use Rattle.ladder.specs.Rungs.{held-most}
+use Rattle.ladder.proofs.Rungs.{held-most}
 use Rattle.ladder.specs.Ladder.{instant_of}
 use Rattle.ladder.proofs.Ladder.instant.Goals as goal
 

@@ -1,5 +1,5 @@
 use mathlib.Core.Path.{refl, ◌∙◌}
-use Rattle.ladder.specs.Laws.{next_instant}
+use Rattle.ladder.proofs.Laws.{next_instant}
 use Rattle.ladder.proofs.Ladder.next_at.Goals as goal
 
 pub returns : goal.returns

@@ -8,8 +8,8 @@ use Rattle.time.specs.Time.{reached_of}
 use Rattle.ladder.specs.Schedule.{max_rungs}
 use lib.ListN.{length}
 use Rattle.ladder.specs.Ladder.{untaken, taking, told, due_from, due_rungs, take_of, instant_of}
-use Rattle.ladder.specs.Laws.{due_all, due_below, due-step, due-done}
-use Rattle.ladder.specs.Taken.{cursor-after}
+use Rattle.ladder.proofs.Laws.{due_all, due_below, due-step, due-done}
+use Rattle.ladder.proofs.Taken.{cursor-after}
 use Rattle.ladder.proofs.Ladder.take.Goals as goal
 
 pub loop-t-init : goal.loop-t-init

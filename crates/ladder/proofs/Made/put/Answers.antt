@@ -3,7 +3,7 @@ use native.Mathlib.Omega.{arith}
 use borrow.Author.Tests.{lt-ltb, le-ltb}
 use Rattle.ladder.specs.Schedule.{max_rungs}
 use Rattle.ladder.specs.Fill.{put_of, pushed}
-use Rattle.ladder.specs.Laws.{mark_fits}
+use Rattle.ladder.proofs.Laws.{mark_fits}
 use Rattle.ladder.proofs.Made.put.Goals as goal
 
 pub overflow_add-sched : goal.overflow_add-sched

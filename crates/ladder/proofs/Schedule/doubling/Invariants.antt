@@ -7,7 +7,8 @@ use native.Mathlib.Nat.{sub-zero}
 use Rattle.time.specs.Lists.{fold, range, range-next, range-end}
 use Rattle.time.specs.Laws.{most_ge}
 use Rattle.ladder.specs.Schedule.{max_rungs, doubled}
-use Rattle.ladder.specs.Laws.{Fresh, fresh-offered, doubling_all}
+use Rattle.ladder.specs.Laws.{Fresh}
+use Rattle.ladder.proofs.Laws.{fresh-offered, doubling_all}
 use Rattle.ladder.specs.Fill.{offered, none_yet}
 use Rattle.ladder.proofs.Schedule.doubling.Given as goal
 

@@ -7,7 +7,7 @@ use native.Mathlib.Nat.{sub-zero}
 use Rattle.time.specs.Time.{none}
 use Rattle.time.specs.Lists.{fold, range, range-next, range-end}
 use Rattle.ladder.specs.Schedule.{max_rungs, last_of, last_send_of, rung_at, rungs_of}
-use Rattle.ladder.specs.Rungs.{held-most}
+use Rattle.ladder.proofs.Rungs.{held-most}
 use Rattle.ladder.proofs.Schedule.last_send.Goals as goal
 
 pub loop-i-init : goal.loop-i-init

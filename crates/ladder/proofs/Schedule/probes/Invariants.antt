@@ -10,8 +10,9 @@ use Rattle.time.specs.Lists.{fold}
 use Rattle.time.specs.Time.{at}
 use Rattle.time.specs.Laws.{most_ge}
 use Rattle.ladder.specs.Schedule.{max_rungs, made_of, doubling_of, filled, held_of, keepalives, send}
-use Rattle.ladder.specs.Rungs.{held-most, offsets-laid}
-use Rattle.ladder.specs.Laws.{Fresh, fresh-put, fresh-all, filled-step, filled-end, probes-all, plan-most, length-laid}
+use Rattle.ladder.proofs.Rungs.{held-most, offsets-laid}
+use Rattle.ladder.specs.Laws.{Fresh}
+use Rattle.ladder.proofs.Laws.{fresh-put, fresh-all, filled-step, filled-end, probes-all, plan-most, length-laid}
 use Rattle.ladder.specs.Fill.{put_of, none_yet}
 use Rattle.ladder.proofs.Schedule.probes.Given as goal
 

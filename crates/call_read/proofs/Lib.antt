@@ -1,0 +1,2 @@
+pub mod QuietTime
+pub mod Exact

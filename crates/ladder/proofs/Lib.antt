@@ -1,0 +1,4 @@
+pub mod Rungs
+pub mod Worked
+pub mod Laws
+pub mod Taken
