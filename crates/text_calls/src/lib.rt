@@ -24,6 +24,7 @@ pub struct Link {
 }
 
 // A fresh link. The state at hand is not read.
+#[tactic(auto, unfolding(crate::specs::Calls::open_on))]
 pub fn open(link: Link, a: &[u64; ARGS], log: &mut [u64; 768]) -> Answer
     ensures { Answers (open_on link a.now) result log.old log.new }
 {
@@ -43,6 +44,7 @@ pub fn open(link: Link, a: &[u64; ARGS], log: &mut [u64; 768]) -> Answer
     )
 }
 
+#[tactic(auto, unfolding(crate::specs::Calls::poll_on))]
 pub fn poll(link: Link, a: &[u64; ARGS], log: &mut [u64; 768]) -> Answer
     ensures { Answers (poll_on link a.now) result log.old log.new }
 {
@@ -62,6 +64,7 @@ pub fn poll(link: Link, a: &[u64; ARGS], log: &mut [u64; 768]) -> Answer
 }
 
 // A frame's plaintext is at the front of the source; the target takes what is delivered.
+#[tactic(auto, unfolding(crate::specs::Calls::frame_on, crate::specs::Calls::target_on))]
 pub fn frame(
     link: Link,
     a: &[u64; ARGS],
@@ -91,6 +94,7 @@ pub fn frame(
     )
 }
 
+#[tactic(auto, unfolding(crate::specs::Calls::proof_at))]
 fn frame_proof(a: &[u64; ARGS]) -> FrameProof
     ensures { result ≡ proof_at a.now }
 {
@@ -104,6 +108,7 @@ fn frame_proof(a: &[u64; ARGS]) -> FrameProof
     }
 }
 
+#[tactic(auto, unfolding(crate::specs::Calls::reply_on))]
 pub fn reply(link: Link, a: &[u64; ARGS]) -> Answer
     ensures { Answers (reply_on link a.now) result [] [] }
 {
@@ -120,6 +125,7 @@ pub fn reply(link: Link, a: &[u64; ARGS]) -> Answer
     )
 }
 
+#[tactic(auto, unfolding(crate::specs::Calls::start_at))]
 fn start_reply(a: &[u64; ARGS]) -> StartReply
     ensures { result ≡ start_at a.now }
 {
@@ -133,6 +139,7 @@ fn start_reply(a: &[u64; ARGS]) -> StartReply
     }
 }
 
+#[tactic(auto, unfolding(crate::specs::Calls::sent_on))]
 pub fn sent(link: Link, a: &[u64; ARGS]) -> Answer
     ensures { Answers (sent_on link a.now) result [] [] }
 {
@@ -144,6 +151,7 @@ pub fn sent(link: Link, a: &[u64; ARGS]) -> Answer
     )
 }
 
+#[tactic(auto, unfolding(crate::specs::Calls::wake_on))]
 pub fn wake(link: Link) -> Woke
     ensures { result ≡ wake_on link }
 {
@@ -153,6 +161,7 @@ pub fn wake(link: Link) -> Woke
     call_read::wake(s, cfg, profile)
 }
 
+#[tactic(auto, unfolding(crate::specs::Calls::status_on))]
 pub fn status(link: Link, a: &[u64; ARGS]) -> Shown
     ensures { result ≡ status_on link a.now }
 {
@@ -164,6 +173,7 @@ pub fn status(link: Link, a: &[u64; ARGS]) -> Shown
 
 // The call of that number, among those that hand a state back; any number past `SENT` is a notice's.
 // Only a frame reads the source and writes to the target.
+#[tactic(auto, using(crate::proofs::Laws::by_number))]
 pub fn answer(
     link: Link,
     call: u8,

@@ -12,6 +12,7 @@ use text_args::ARGS;
 pub mod place;
 
 // A worker authenticated a frame.
+#[tactic(auto, unfolding(crate::specs::Notices::worker_on))]
 pub fn worker(
     s: State,
     cfg: Config,
@@ -36,6 +37,7 @@ pub fn worker(
 }
 
 // A worker accepted a receive copy.
+#[tactic(auto, unfolding(crate::specs::Notices::delegated_on))]
 pub fn delegated(
     s: State,
     cfg: Config,
@@ -53,6 +55,7 @@ pub fn delegated(
 }
 
 // A worker is gone.
+#[tactic(auto, unfolding(crate::specs::Notices::undelegated_on))]
 pub fn undelegated(
     s: State,
     cfg: Config,
@@ -70,6 +73,7 @@ pub fn undelegated(
 }
 
 // An application message was sealed.
+#[tactic(auto, unfolding(crate::specs::Notices::data_sent_on))]
 pub fn data_sent(
     s: State,
     cfg: Config,
@@ -86,6 +90,7 @@ pub fn data_sent(
 }
 
 // Whether a next hop exists, and the smoothed round trip.
+#[tactic(auto, unfolding(crate::specs::Notices::path_on))]
 pub fn path(
     s: State,
     cfg: Config,
@@ -104,6 +109,7 @@ pub fn path(
 }
 
 // The notice of that number; any number past them is `PATH`.
+#[tactic(auto, using(crate::specs::Laws::by_number))]
 pub fn notice(
     s: State,
     cfg: Config,
