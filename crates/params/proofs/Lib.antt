@@ -1,4 +1,4 @@
 mod Sums
 pub mod Laws
-pub mod Span
+pub mod Spans
 pub mod Worked

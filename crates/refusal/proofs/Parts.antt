@@ -7,7 +7,8 @@ use Rattle.time.specs.Pick.{pick}
 use Rattle.state.specs.declared.State.{State}
 use Rattle.refusal.specs.declared.Refused.{Refused}
 use Rattle.refusal.specs.Refusal.{any_of, cands_bad, epochs_bad, numbers_bad, ladders_bad, Test, accepted, first, numbered, by, state_tests, state_back}
-use Rattle.refusal.specs.First.{or_left, or_right, rising, any_back, none-back, back_none}
+use Rattle.refusal.specs.First.{rising, any_back}
+use Rattle.refusal.proofs.First.{or_left, or_right, none-back, back_none}
 
 stays : (l m : List Test) → ((first l).number ≡ 0 → ⊥) → first l ≡ first (l ++ m)
 unfolding first

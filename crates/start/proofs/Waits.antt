@@ -11,7 +11,7 @@ use Rattle.time.specs.Laws.{least-left}
 use Rattle.settings.specs.declared.Config.{Config}
 use Rattle.state.specs.declared.Memory.{Memory}
 use Rattle.start.specs.Start.{latest_of, latest_in, soft_met, enough_sent, trigger_at, silence_at, floor_ends, damped_ends, backed_ends, silence_waits, scheduled_waits, scheduled_after, at_of}
-use Rattle.start.specs.Laws.{most-max, latest_with, latest-instants, latest-more}
+use Rattle.start.proofs.Laws.{most-max, latest_with, latest-instants, latest-more}
 
 -- the floors' ends, the third of them there or not
 three : (x y z : ℕ) → most z (most x y) ≡ latest_in (x ∷ y ∷ z ∷ [])

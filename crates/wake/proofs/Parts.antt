@@ -20,7 +20,7 @@ use Rattle.state.specs.declared.Profile.{Profile}
 use Rattle.start.specs.Start.{instants, may_start, start_at}
 use Rattle.wake.specs.Due.{ladder_instants, cycle_due, current_instants, standing}
 use Rattle.wake.specs.Wake.{exhausted, cycle_instants, stored_instants, wake_instants, wake_of}
-use Rattle.wake.specs.Earliest.{earliest_nil, earliest_one, earliest_append}
+use Rattle.wake.proofs.Earliest.{earliest_nil, earliest_one, earliest_append}
 
 pub ladder-least : (l : Ladder) → earliest_of (ladder_instants l) ≡ next_at_of l
 unfolding ladder_instants next_at_of
