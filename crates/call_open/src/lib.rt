@@ -1,5 +1,6 @@
 // `open`: a fresh link at its instant (`install` of machine.rs).
 #![tactic(auto)]
+
 ghost use Rattle.std.specs.Prelude.{◌≡◌};
 ghost use Rattle.events.specs.Log.{Appends};
 ghost use Rattle.retire.specs.Retire.{only};

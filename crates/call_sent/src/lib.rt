@@ -1,5 +1,6 @@
 // The current epoch's sent count is told.
 #![tactic(auto)]
+
 ghost use Rattle.std.specs.Prelude.{◌≡◌, []};
 ghost use Rattle.answer.specs.Answers.{Answers};
 ghost use Rattle.call_sent.specs.Told.{below_held, told_number, told_state, told_of};

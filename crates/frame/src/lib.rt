@@ -1,5 +1,6 @@
 // The call of a frame: a frame from the peer that authenticated is taken, or sent back by number.
 #![tactic(auto)]
+
 ghost use Rattle.std.specs.Prelude.{◌≡◌};
 ghost use Rattle.frame.specs.Exact.{FrameExact};
 ghost use Rattle.answer.specs.Answers.{Answers};

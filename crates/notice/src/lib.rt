@@ -1,6 +1,7 @@
 // The five notices as calls: what a decrypt worker and the path tell is taken, or sent back by number.
 // Each takes what a poll takes except the extra; the spread is tested and not used.
 #![tactic(auto)]
+
 ghost use Rattle.notice_rows.specs.Rows.{worker_of, delegated_of, undelegated_of, data_sent_of, path_of};
 ghost use Rattle.frame_hear.specs.Hear.{given_of};
 ghost use Rattle.answer.specs.Answers.{Answers};
