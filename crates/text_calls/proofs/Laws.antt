@@ -68,5 +68,3 @@ module _ (call : ℕ) (l : Link) (a source target : List ℕ) (r : Answer) (ws :
   pub by-sent : call ≡ call_sent → Answers (sent_on l a) r [] [] → Answers (answer_on call l a source target) r ws ws × (target ≡ left_on call l a source target)
   unfolding answer_on left_on
   by-sent e h = rw e (unlent (sent_on l a) r ws h, refl)
-
-pub ruleset by_number = (by_open, by-poll, by-frame, by-reply, by-sent, by-notice)

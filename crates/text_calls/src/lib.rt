@@ -173,7 +173,6 @@ pub fn status(link: Link, a: &[u64; ARGS]) -> Shown
 
 // The call of that number, among those that hand a state back; any number past `SENT` is a notice's.
 // Only a frame reads the source and writes to the target.
-#[tactic(auto, using(crate::proofs::Laws::by_number))]
 pub fn answer(
     link: Link,
     call: u8,

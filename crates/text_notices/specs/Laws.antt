@@ -31,5 +31,3 @@ module _ (call : ℕ) (s : State) (cfg : Config) (profile : Profile) (a : List �
       → Answers (notice_on call s cfg profile a) r ws ws'
   unfolding notice_on
   by-path w d u t h = rw (ne_eqb call call_worker w, ne_eqb call call_delegated d, ne_eqb call call_undelegated u, ne_eqb call call_data_sent t) h
-
-pub ruleset by_number = (by-worker, by-delegated, by-undelegated, by-datasent, by-path)

@@ -1,6 +1,7 @@
 // The notices on a row of arguments. Each promises its call's definition at what the row holds. No
 // function has a `requires`.
 #![tactic(auto)]
+
 ghost use Rattle.answer.specs.Answers.{Answers};
 ghost use Rattle.text_notices.specs.Notices.{worker_on, delegated_on, undelegated_on, data_sent_on, path_on, notice_on};
 
@@ -109,7 +110,6 @@ pub fn path(
 }
 
 // The notice of that number; any number past them is `PATH`.
-#[tactic(auto, using(crate::specs::Laws::by_number))]
 pub fn notice(
     s: State,
     cfg: Config,
