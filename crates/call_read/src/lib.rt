@@ -1,5 +1,6 @@
 // What is read of a link: its wake (`next_wake` of machine.rs) and the link line.
 #![tactic(auto)]
+
 ghost use Rattle.std.specs.Prelude.{◌≡◌, ◌-◌};
 ghost use Rattle.time.specs.Time.{whenever};
 ghost use Rattle.start.specs.Start.{latest_of};

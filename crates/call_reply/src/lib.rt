@@ -1,6 +1,7 @@
 // The call of a start reply: the caller says whether the start that was called for opened an attempt
 // (`Rekey::start` of machine.rs, with the silence count of its `poll`).
 #![tactic(auto)]
+
 ghost use Rattle.std.specs.Prelude.{◌≡◌, []};
 ghost use Rattle.time.specs.Time.{least};
 ghost use Rattle.params.specs.Params.{value_or};
