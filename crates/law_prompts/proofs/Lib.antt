@@ -1,5 +1,2 @@
-pub mod Every
-pub mod Stays
 pub mod Frames
-pub mod Notices
 pub mod Rungs

@@ -1,3 +1,5 @@
 pub mod Every
+pub mod Stays
 pub mod Frames
+pub mod Notices
 pub mod Rungs

@@ -23,16 +23,15 @@ use Rattle.law_early.specs.Early.{Early}
 use Rattle.law_alike.specs.Whole.{alike, stood}
 use Rattle.law_alike.specs.Due.{quiet-alike, wake-alike, held-alike}
 use Rattle.law_agree.specs.Replies.{woke_alike, status_alike}
-use Rattle.law_runs.proofs.Agree.{poll-alike}
+use Rattle.law_runs.specs.Agree.{poll-alike}
 use Rattle.poll.specs.Poll.{poll_of}
 use Rattle.poll.proofs.Exact.{poll_exact}
 use Rattle.poll.proofs.Laws.{poll-accepted, poll-ages, poll-still, poll-speaks}
-use Rattle.law_runs.proofs.Late.{poll-late}
-use Rattle.law_runs.specs.Runs.{Kind, poll, named, gave, back, Late, logged, goes_on, quiet, accepted, heard as heard_by}
-use Rattle.law_runs.proofs.Runs.{Laws}
+use Rattle.law_runs.specs.Late.{poll-late}
+use Rattle.law_runs.specs.Runs.{Kind, poll, named, gave, back, Laws, Late, logged, goes_on, quiet, accepted, heard as heard_by}
 use Rattle.law_runs.specs.Served.{Name, no_buffers, answer_of}
-use Rattle.law_runs.proofs.Others.{refused, said}
-use Rattle.law_runs.proofs.Woken.{taken, woke-accepted, status-accepted}
+use Rattle.law_runs.specs.Others.{refused, said}
+use Rattle.law_runs.specs.Woken.{taken, woke-accepted, status-accepted}
 use Rattle.law_runs.specs.Link.{Call, a_poll, other, served, kind_of, at_of, step, given, instant_of, wake_for, workers_of, link, TwoRuns}
 use Rattle.law_runs.proofs.TwoRuns.{demand3}
 

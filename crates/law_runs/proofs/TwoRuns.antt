@@ -4,8 +4,7 @@ use mathlib.Core.List.{List, [], ◌∷◌, ◌++◌}
 use mathlib.Core.Bool.{Bool, true, false}
 use Prim.Native.Nat.{◌<◌}
 use native.Mathlib.Omega.{arith}
-use Rattle.law_runs.specs.Runs.{poll, Answer, Heard, Entry, Machine, Demand3, LeftOut, done, stays, out, logged, only_if, next, quiet, entry, log_one, log_of, end_of, heard, heard_of, second, AllQuiet, heard_shared, states_of, states_shared, After, Rises, EarlyFor, Late, accepted}
-use Rattle.law_runs.proofs.Runs.{Laws}
+use Rattle.law_runs.specs.Runs.{poll, Answer, Heard, Entry, Machine, Laws, Demand3, LeftOut, done, stays, out, logged, only_if, next, quiet, entry, log_one, log_of, end_of, heard, heard_of, second, AllQuiet, heard_shared, states_of, states_shared, After, Rises, EarlyFor, Late, accepted}
 
 -- the first of a list, or another
 abbrev head_or : {A : Type 0} → A → List A → A

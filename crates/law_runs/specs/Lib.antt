@@ -1,5 +1,8 @@
+pub mod Late
+pub mod Agree
 pub mod Runs
 pub mod Served
 pub mod Others
 pub mod Notices
 pub mod Link
+pub mod Woken

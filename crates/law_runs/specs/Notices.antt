@@ -15,7 +15,7 @@ use Rattle.law_agree.specs.Hear.{HearSteps}
 use Rattle.law_notice.specs.Kept.{Keeps, worker_keeps, handed_keeps, data_keeps, path_keeps, notice_keeps, notice_kept}
 use Rattle.law_notice.specs.Agree.{worker-alike, handed-alike, data_alike, path-alike, notice_alike}
 use Rattle.law_runs.specs.Served.{Name, worker, delegated, undelegated, datasent, path, no_buffers, step_of, Served}
-use Rattle.law_runs.proofs.Others.{refused, decided}
+use Rattle.law_runs.specs.Others.{refused, decided}
 
 -- a notice by its case: what the case does to a state, with its two laws
 module _

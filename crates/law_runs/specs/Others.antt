@@ -1,11 +1,14 @@
 -- The calls of a run that are no polls, each with its laws; notices are in Notices.antt. The steps are the
 -- definitions that the calls' own promises name.
-use Rattle.std.specs.Prelude.{ℕ, Bool, ◌≡◌, refl, List, ℤ}
-use Rattle.std.proofs.Common.{true≢false, ap}
-use Rattle.std.proofs.Math.Option.{none}
+use Rattle.std.specs.Prelude.{ℕ, zero, suc, Bool, false, ◌≡◌, refl, List, ℤ}
+use Rattle.std.proofs.Common.{true≢false, ap, arith}
+use Rattle.std.proofs.Math.Option.{Option, none}
 use Rattle.settings.specs.declared.Config.{Config}
 use Rattle.state.specs.declared.Profile.{Profile}
+use Rattle.state.specs.Stands.{stands}
+use Rattle.events.specs.Events.{Event}
 use Rattle.law_refusal.specs.Sound.{sound, sounding}
+use Rattle.answer.specs.Outcome.{Outcome}
 use Rattle.frame_slots.specs.declared.FrameProof.{FrameProof}
 use Rattle.frame.specs.Frames.{frame_answer, frame_target}
 use Rattle.frame.proofs.Exact.{frame-exact}
@@ -17,10 +20,25 @@ use Rattle.call_sent.proofs.Exact.{told_exact}
 use Rattle.law_frame.specs.Frames.{frame-accepted, frame-ages}
 use Rattle.law_reply.specs.Reply.{reply-accepted, reply-ages}
 use Rattle.law_reply.specs.Told.{told-kept, told-ages}
-use Rattle.law_alike.specs.Whole.{alike}
+use Rattle.law_alike.specs.Whole.{alike, stood}
+use Rattle.law_agree.specs.Outcomes.{Outcomes}
 use Rattle.law_agree.specs.Frames.{frame-alike, target-alike}
 use Rattle.law_agree.specs.Replies.{reply-alike, told-alike}
-use Rattle.law_runs.specs.Served.{frame, reply, sent, Buffers, no_buffers, step_of, Served}
+use Rattle.law_runs.specs.Runs.{goes_on}
+use Rattle.law_runs.specs.Served.{frame, reply, sent, Buffers, no_buffers, answer_of, step_of, Served}
+
+-- sent back: its number is not 0
+pub refused : (n place : ℕ) (out : List Event) (c : Option ℕ) → goes_on (answer_of n place out c) ≡ false → n ≡ 0 → ⊥
+refused zero place out c q e = absurd (true≢false q)
+refused (suc n) place out c q e = omega arith
+
+-- an answer by its parts
+pub said : {n m p q : ℕ} {l k : List Event} {c d : Option ℕ} → n ≡ m → p ≡ q → l ≡ k → c ≡ d → answer_of n p l c ≡ answer_of m q k d
+said e f g h = cc
+
+-- what stands decides a step
+pub decided : {a b : Outcome} {x y : Buffers} → Outcomes a b → x ≡ y → (answer_of a.number a.place a.out none ≡ answer_of b.number b.place b.out none) × (x ≡ y) × (stands a.state ≡ stands b.state)
+decided r e = (said r.number r.place r.out refl, e, (stood r.state).eq)
 
 -- ---- a frame
 

@@ -1,5 +1,6 @@
 // The poll (machine.rs, `poll`): refusals 1 to 7, the passes, and what follows them.
 #![tactic(auto)]
+
 ghost use Rattle.poll.specs.Poll.{poll_of};
 ghost use Rattle.answer.specs.Answers.{Answers};
 ghost use Rattle.poll.specs.Exact.{PollExact};

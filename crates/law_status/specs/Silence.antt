@@ -9,8 +9,7 @@ use Rattle.settings.specs.declared.Config.{Config}
 use Rattle.state.specs.declared.State.{State}
 use Rattle.start.specs.Start.{silence_interval, latest_of, silence_at}
 use Rattle.call_read.specs.Read.{quiet_time}
-use Rattle.law_status.specs.Counts.{Began}
-use Rattle.law_status.proofs.Counts.{quiet_began}
+use Rattle.law_status.specs.Counts.{Began, quiet_began}
 
 -- where the sum passes 2^64 − 1, `later` leaves the instant itself, and the trigger stands from there on. An interval of
 -- accepted settings is above 0

@@ -1,6 +1,6 @@
 -- The events of a notice, as those of a frame: what fits (Frames) holds of every one. So no prompt of a
 -- notice is one that would be withdrawn, and each carries 0 for the rungs taken.
-use Rattle.std.specs.Prelude.{ℕ, Bool, false, ◌≡◌, refl, ℤ}
+use Rattle.std.specs.Prelude.{ℕ, Bool, true, false, ◌≡◌, refl, ℤ}
 use Rattle.time.specs.declared.When.{When}
 use Rattle.time.specs.Pick.{of_choice}
 use Rattle.settings.specs.declared.Config.{Config}
@@ -17,9 +17,8 @@ use Rattle.frame_hear.specs.Hear.{HearStep, given_of}
 use Rattle.notice_rows.specs.Rows.{rejected, raised_current, raised_previous, worker_of, already, handed}
 use Rattle.notice_rows.proofs.Laws.{slotted}
 use Rattle.notice.specs.Notices.{notice_by, worker_answer, delegated_answer, undelegated_answer, data_sent_answer, path_answer}
-use Rattle.law_prompts.proofs.Every.{every-none, every_one}
-use Rattle.law_prompts.specs.Frames.{Fits, staying}
-use Rattle.law_prompts.proofs.Frames.{Holds, HearHolds, current-holds, previous_holds, staying-fits}
+use Rattle.law_prompts.specs.Every.{every-none, every_one}
+use Rattle.law_prompts.specs.Frames.{Fits, Holds, HearHolds, current-holds, previous_holds, staying, staying-fits}
 
 module _ (p : State → Event → Bool) (f : Fits p) where
   -- ---- the cases

@@ -37,12 +37,9 @@ use Rattle.call_open.specs.Open.{new_memory, first_epoch, alone, fresh_state, bl
 use Rattle.call_reply.specs.declared.StartReply.{StartReply}
 use Rattle.call_reply.specs.Reply.{memory_after, started_of, taken_of, reply_refused, reply_of}
 use Rattle.call_sent.specs.Told.{put_sent, told_number, told_state, told_of}
-use Rattle.law_status.specs.Counts.{Same, HeardAt, Began}
-use Rattle.law_status.proofs.Counts.{same_self}
-use Rattle.law_status.specs.Hearing.{reverts, is_reverted, Went}
-use Rattle.law_status.proofs.Hearing.{went_after, current-heard, pending-heard, previous_went}
-use Rattle.law_status.specs.Polls.{Polled}
-use Rattle.law_status.proofs.Polls.{passes-after}
+use Rattle.law_status.specs.Counts.{Same, HeardAt, Began, same_self}
+use Rattle.law_status.specs.Hearing.{reverts, is_reverted, Went, went_after, current-heard, pending-heard, previous_went}
+use Rattle.law_status.specs.Polls.{Polled, passes-after}
 
 -- ---- an open: nothing was heard, and its epoch starts at its instant
 

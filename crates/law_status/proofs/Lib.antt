@@ -1,6 +1,0 @@
-pub mod Counts
-pub mod Silence
-pub mod Hearing
-pub mod Polls
-pub mod Calls
-pub mod Line
