@@ -1,6 +1,7 @@
 // The calls of a link on a row of arguments: what stands between the calls and the programs. Each
 // promises its call's definition at what the row holds. No function has a `requires`.
 #![tactic(auto)]
+
 ghost use Rattle.std.specs.Prelude.{◌≡◌, []};
 ghost use Rattle.answer.specs.Answers.{Answers};
 ghost use Rattle.text_calls.specs.Calls.{open_on, poll_on, proof_at, frame_on, target_on, start_at, reply_on, sent_on, wake_on, status_on, answer_on, left_on};

@@ -21,16 +21,16 @@ pub returns-then-call-eq-FRAME-clause-target : goal.returns-then-call-eq-FRAME-c
 returns-then-call-eq-FRAME-clause-target c = (by-frame _ _ _ _ _ _ _ _ _ c.if-call-eq-FRAME.true c.frame.ensures.frame c.frame.ensures.target).1
 
 pub returns-then-call-eq-REPLY-clause-answer : goal.returns-then-call-eq-REPLY-clause-answer
-returns-then-call-eq-REPLY-clause-answer c = (by-reply _ _ _ _ _ _ _ c.if-call-eq-REPLY.true c.reply.ensures).0
+returns-then-call-eq-REPLY-clause-answer c = (by-reply _ _ _ _ _ _ c.args.log.now c.if-call-eq-REPLY.true c.reply.ensures).0
 
 pub returns-then-call-eq-REPLY-clause-target : goal.returns-then-call-eq-REPLY-clause-target
-returns-then-call-eq-REPLY-clause-target c = (by-reply _ _ _ _ _ _ _ c.if-call-eq-REPLY.true c.reply.ensures).1
+returns-then-call-eq-REPLY-clause-target c = (by-reply _ _ _ _ _ _ c.args.log.now c.if-call-eq-REPLY.true c.reply.ensures).1
 
 pub returns-then-call-eq-SENT-clause-answer : goal.returns-then-call-eq-SENT-clause-answer
-returns-then-call-eq-SENT-clause-answer c = (by-sent _ _ _ _ _ _ _ c.if-call-eq-SENT.true c.sent.ensures).0
+returns-then-call-eq-SENT-clause-answer c = (by-sent _ _ _ _ _ _ c.args.log.now c.if-call-eq-SENT.true c.sent.ensures).0
 
 pub returns-then-call-eq-SENT-clause-target : goal.returns-then-call-eq-SENT-clause-target
-returns-then-call-eq-SENT-clause-target c = (by-sent _ _ _ _ _ _ _ c.if-call-eq-SENT.true c.sent.ensures).1
+returns-then-call-eq-SENT-clause-target c = (by-sent _ _ _ _ _ _ c.args.log.now c.if-call-eq-SENT.true c.sent.ensures).1
 
 pub returns-clause-answer : goal.returns-clause-answer
 returns-clause-answer c = (by-notice _ _ _ _ _ _ _ _ c.if-call-eq-OPEN.false c.if-call-eq-POLL.false c.if-call-eq-FRAME.false c.if-call-eq-REPLY.false c.if-call-eq-SENT.false c.notice.ensures).0
