@@ -1,6 +1,6 @@
 -- The numbers of `open` in document 01's words: it is accepted exactly where the tests that concern it pass,
 -- and each number is given exactly where its sentence is the first to hold.
-use Rattle.std.specs.Prelude.{ℕ, Bool, ◌↔◌, ◌≡◌, [], ◌∷◌, ℤ}
+use Rattle.std.specs.Prelude.{ℕ, Bool, [], ◌∷◌, ℤ}
 use Rattle.std.proofs.Common.{inl, inr, arith}
 use Rattle.std.proofs.Math.Logic.Iff
 use Rattle.std.proofs.Math.Path.{refl, ap}

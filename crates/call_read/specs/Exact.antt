@@ -2,7 +2,6 @@
 -- tests that concern it pass, and each number is given exactly where its sentence is the first to hold.
 use Rattle.std.specs.Prelude.{ℕ, ◌↔◌, ◌≡◌}
 use Rattle.std.proofs.Math.Logic.Iff
-use mathlib.Core.List.{[]}
 use Rattle.time.specs.Time.{none}
 use Rattle.settings.specs.declared.Config.{Config}
 use Rattle.numbers.specs.Numbers.{cycle_idle}

@@ -1,7 +1,6 @@
 -- The quiet time in request 4's words, fact by fact: they leave no other number.
-use Rattle.std.specs.Prelude.{ℕ, ◌≤◌, ◌<◌, ◌-◌, ◌⊎◌, ◌≡◌}
+use Rattle.std.specs.Prelude.{ℕ, ◌≤◌, ◌-◌, ◌≡◌}
 use Rattle.std.proofs.Math.Bool.{true}
-use Rattle.std.proofs.lemmas.Bool.{false≢true}
 use Rattle.time.specs.declared.When.{When}
 use Rattle.state.specs.declared.State.{State}
 

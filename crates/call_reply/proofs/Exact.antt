@@ -1,6 +1,6 @@
 -- A start reply's number in document 01's words: accepted exactly where 1 to 6 and 10 pass, and each
 -- number exactly where its sentence is the first to hold.
-use Rattle.std.specs.Prelude.{ℕ, ◌≤◌, ◌<◌, not, ◌↔◌, ◌⊎◌, ◌≡◌}
+use Rattle.std.specs.Prelude.{ℕ, not, ◌≡◌}
 use Rattle.std.proofs.Common.{inl, inr, arith}
 use Rattle.std.proofs.Math.Logic.Iff
 use Rattle.std.proofs.Math.Path.{refl, ap}

@@ -2,7 +2,7 @@
 -- number exactly where its sentence is the first to hold.
 use Rattle.std.specs.Prelude.{ℕ, ◌≤◌, ◌<◌, true, false, ◌↔◌, ◌⊎◌, ◌≡◌}
 use Rattle.std.proofs.Math.Logic.Iff
-use mathlib.Core.List.{[], ◌∷◌}
+use mathlib.Core.List.{[]}
 use Rattle.settings.specs.declared.Config.{Config}
 use Rattle.numbers.specs.Numbers.{refused_no_start}
 use Rattle.state.specs.declared.State.{State}

@@ -1,6 +1,6 @@
 -- The numbers of a told sent count in document 01's words: it is accepted exactly where the tests that
 -- concern it pass, and each number is given exactly where its sentence is the first to hold.
-use Rattle.std.specs.Prelude.{ℕ, ◌≤◌, ◌<◌, Bool, true, false, ◌↔◌, ◌⊎◌, ◌≡◌}
+use Rattle.std.specs.Prelude.{ℕ, ◌≤◌, Bool, true, false, ◌⊎◌, ◌≡◌}
 use Rattle.std.proofs.lemmas.Bool.{false≢true}
 use Rattle.std.proofs.Common.{inl, inr, ⊎_elim, sym, ◌∙◌, arith}
 use Rattle.std.proofs.Math.Logic.Iff

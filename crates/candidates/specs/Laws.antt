@@ -1,9 +1,8 @@
 -- What the operations make of the list of candidates.
-use Rattle.std.specs.Prelude.{ℕ, ◌≤◌, ◌<◌, ◌+◌, ◌-◌, Bool, ◌||◌, ◌≡◌, leb}
+use Rattle.std.specs.Prelude.{ℕ, Bool, ◌||◌, leb}
 use Rattle.std.proofs.Math.Bool.{false}
-use Rattle.std.proofs.Common.{◌∙◌}
 use mathlib.Core.List.Sublistᴰ
-use mathlib.Core.List.{List, [], ◌∷◌, ◌++◌}
+use mathlib.Core.List.{List, [], ◌∷◌}
 
 -- ---- the earliest deadline
 

@@ -1,12 +1,9 @@
 -- Laws of arrays read and moved place by place, for the loops.
-use Prim.Native.Nat.{ℕ, ◌≤◌, ◌<◌, ◌+◌, ◌-◌}
-use Rattle.std.specs.Prelude.{Bool, ◌||◌, ◌≡◌, take, drop}
-use Rattle.std.proofs.Common.{true≢false, ◌∙◌, ⊎_elim}
-use Rattle.std.proofs.lemmas.Bool.{false≢true}
+use Prim.Native.Nat.{ℕ, ◌<◌, ◌+◌, ◌-◌}
+use Rattle.std.specs.Prelude.{Bool, take, drop}
 use mathlib.Core.List.{List, [], ◌∷◌, ◌++◌, map}
 use Rattle.std.proofs.Math.ListN.{length, get_or}
 use Rattle.time.specs.Lists.{range, kept}
-use Rattle.candidates.specs.Held.{others}
 
 -- ---- elements moved to the front
 

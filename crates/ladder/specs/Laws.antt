@@ -1,9 +1,6 @@
 -- Laws of schedules and ladders.
-use Rattle.std.specs.Prelude.{◌≤◌, ◌<◌, ◌+◌, ◌-◌, ◌*◌, ◌^◌, ◌≡◌, ◌⊎◌}
-use Rattle.std.proofs.Common.{◌∙◌, ⊎_elim}
-use mathlib.Core.List.{[], ◌∷◌, ◌++◌, map}
+use Rattle.std.specs.Prelude.{◌<◌, ◌^◌}
 use Rattle.ladder.specs.declared.Made.{Made}
-use Rattle.ladder.specs.Schedule.{past}
 
 -- no bit of the map stands past the rungs
 unfoldable pub Fresh : Made → Type 0

@@ -1,8 +1,6 @@
 -- The number of rungs taken: how far the cursor moves, and which rungs these are.
-use Rattle.std.specs.Prelude.{ℕ, ◌≤◌, ◌+◌, ◌-◌, ◌≡◌, ltb}
+use Rattle.std.specs.Prelude.{ℕ, ◌≤◌, ◌-◌, ◌≡◌, ltb}
 use Rattle.std.proofs.Math.Bool.{false}
-use Rattle.std.proofs.Common.{◌∙◌}
-use mathlib.Core.List.{[], ◌∷◌}
 use Rattle.std.proofs.Math.ListN.{take, drop}
 use Rattle.time.specs.Lists.{kept}
 use Rattle.ladder.specs.declared.Ladder.{Ladder}

@@ -1,6 +1,6 @@
 -- The events of a notice, as those of a frame: what fits (Frames) holds of every one. So no prompt of a
 -- notice is one that would be withdrawn, and each carries 0 for the rungs taken.
-use Rattle.std.specs.Prelude.{ℕ, Bool, true, false, ◌≡◌, refl, ℤ}
+use Rattle.std.specs.Prelude.{ℕ, Bool, false, ◌≡◌, refl, ℤ}
 use Rattle.time.specs.declared.When.{When}
 use Rattle.time.specs.Pick.{of_choice}
 use Rattle.settings.specs.declared.Config.{Config}

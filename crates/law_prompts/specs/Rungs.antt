@@ -1,6 +1,6 @@
 -- "Each send and prompt that comes from a ladder carries that number, any other 0" (request 2): the number
 -- on every event of a frame, a notice and an open, and of a poll by the kind of the item.
-use Rattle.std.specs.Prelude.{ℕ, ◌<◌, Bool, false, not, ◌&&◌, ◌≡◌, List, [], eqb, ltb, leb, ℤ, get_or}
+use Rattle.std.specs.Prelude.{ℕ, ◌<◌, Bool, false, not, ◌&&◌, ◌≡◌, List, eqb, ltb, leb, ℤ, get_or}
 use Rattle.std.proofs.Math.Bool.{true}
 use Rattle.std.proofs.Common.{true≢false, sym, ◌∙◌, eq-eqb, ltb-true}
 use Rattle.std.proofs.Math.Path.{refl}
@@ -30,11 +30,10 @@ use Rattle.events.specs.Queries.{any_of, offers}
 use Rattle.refusal.specs.Refusal.{before_open}
 use Rattle.answer.specs.Outcome.{Outcome}
 use Rattle.answer.proofs.Laws.{by-either}
-use Rattle.retire.specs.Retire.{only}
 use Rattle.cutover.specs.Cutover.{cutover_of}
-use Rattle.poll_epoch.specs.EpochRows.{DrainStep, CurStep, drain_due, fin_taken, fin_due, elicit_taken, elicit_due}
+use Rattle.poll_epoch.specs.EpochRows.{DrainStep, CurStep, drain_due, fin_due, elicit_taken, elicit_due}
 use Rattle.poll_cycle.specs.CycleRows.{CycleStep, FailStep, unadopted_due, late_for, probing, probe_due, delayed_due, resend_taken, resend_due, expire_due}
-use Rattle.poll_cut.specs.Cut.{Step, candidate_due, pend_of, cut_by, held_due, delay_end, unconfirmed, assumed, confirm_due}
+use Rattle.poll_cut.specs.Cut.{Step, candidate_due, cut_by, held_due, delay_end, unconfirmed, assumed, confirm_due}
 use Rattle.start.specs.Start.{start_kind, called_for}
 use Rattle.wake.specs.Wake.{exhausted}
 use Rattle.poll_close.specs.Closing.{idle_now, tests_out, start_out, offer_out}

@@ -1,7 +1,7 @@
 -- 6. "A ladder has more than 16 rungs, or stands past its last": neither taking rungs nor a schedule
 -- made anew gives such a ladder.
-use Rattle.std.specs.Prelude.{ℕ, suc, ◌≤◌, ◌+◌, ◌-◌, Bool, true, false, ◌≡◌, List, [], ◌∷◌, length, drop}
-use Rattle.std.proofs.Common.{◌∙◌, arith, length-take, length-drop}
+use Rattle.std.specs.Prelude.{ℕ, suc, ◌≤◌, ◌-◌, Bool, true, false, List, [], ◌∷◌, length, drop}
+use Rattle.std.proofs.Common.{arith, length-take, length-drop}
 use Rattle.time.specs.declared.When.{When}
 use Rattle.time.specs.Pick.{pick}
 use Rattle.time.specs.Lists.{take_while}

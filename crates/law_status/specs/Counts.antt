@@ -1,7 +1,6 @@
 -- What the quiet time counts from, before a call and behind it: it stays, or the current epoch was heard, or
 -- another epoch is current.
-use Rattle.std.specs.Prelude.{ℕ, ◌≤◌, ◌-◌, true, ◌≡◌}
-use Rattle.std.proofs.Common.{◌∙◌}
+use Rattle.std.specs.Prelude.{ℕ, true, ◌≡◌}
 use Rattle.time.specs.Time.{at}
 use Rattle.state.specs.declared.State.{State}
 

@@ -1,10 +1,7 @@
 -- What hearing does to what the quiet time counts from: a frame of the current or the pending epoch, and of the
 -- drained one with and without a revert.
-use Rattle.std.specs.Prelude.{Bool, ◌⊎◌, ◌≡◌, List, [], ◌∷◌, ◌++◌, eqb, get_or}
+use Rattle.std.specs.Prelude.{Bool, ◌⊎◌, ◌≡◌, List, eqb, get_or}
 use Rattle.std.proofs.Math.Bool.{true, false}
-use Rattle.std.proofs.lemmas.Bool.{false≢true}
-use Rattle.std.proofs.Common.{⊎_elim, ◌∙◌}
-use Rattle.time.specs.Pick.{and}
 use Rattle.numbers.specs.Numbers.{event_reverted}
 use Rattle.state.specs.declared.State.{State}
 use Rattle.events.specs.Events.{Event, words_of}

@@ -1,7 +1,6 @@
 -- The quiet time of the link line over every call: which call brings it to 0, which leaves it, and what it counts
 -- from where another epoch is current. `siklyavon_status` cites it.
 use Rattle.std.specs.Prelude.{ℕ, ◌≤◌, ◌-◌, Bool, true, false, ◌⊎◌, ◌≡◌, List, ℤ}
-use Rattle.std.proofs.Common.{true≢false, ⊎_elim, ◌∙◌}
 use Rattle.time.specs.declared.When.{When}
 use Rattle.time.specs.Time.{at}
 use Rattle.settings.specs.declared.Config.{Config}

@@ -1,7 +1,6 @@
 -- What a poll does to what the quiet time counts from: it hears nothing, and an epoch that it makes current starts
 -- at its instant.
-use Rattle.std.specs.Prelude.{ℕ, ◌⊎◌, ◌≡◌, [], ℤ, false, eqb}
-use Rattle.std.proofs.Common.{⊎_elim}
+use Rattle.std.specs.Prelude.{ℕ, ◌⊎◌, ◌≡◌, ℤ, false, eqb}
 use Rattle.state.specs.declared.State.{State}
 use Rattle.state.specs.declared.Given.{Given}
 use Rattle.poll_cut.specs.Cut.{cut_by}

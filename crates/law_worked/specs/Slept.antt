@@ -3,7 +3,6 @@
 use Rattle.std.specs.Prelude.{ℕ, Bool, true, false, ◌≡◌, refl, List, [], ◌∷◌}
 use Rattle.time.specs.Lists.{fold, range, kept, take_while}
 use Rattle.time.specs.Time.{none, at, later_of, sat_mul, least, most}
-use Rattle.ladder.specs.declared.Ladder.{Ladder}
 use Rattle.ladder.specs.Schedule.{max_rungs, cut, doubled, doubling_of, keepalives, filled, probes_of, bits_of, laid, rung_at, held_of, rungs_of}
 use Rattle.ladder.specs.Ladder.{anew, remaining, due_rungs, taking, take_of}
 use Rattle.numbers.specs.Numbers.{cycle_init, cycle_pend_i, wait_evidence, kind_msg1, kind_msg3}

@@ -1,6 +1,6 @@
 -- What an accepted poll does: each item that is due is listed, none is left due at the poll's instant,
 -- and it tells something exactly where it has something to tell.
-use Rattle.std.specs.Prelude.{ℕ, ◌<◌, Bool, ◌≡◌, [], ℤ}
+use Rattle.std.specs.Prelude.{ℕ, ◌<◌, Bool, ◌≡◌, ℤ}
 use Rattle.std.proofs.Math.Logic.{⊎_elim}
 use Rattle.std.proofs.Common.{sym, ◌∙◌, arith}
 use Rattle.std.proofs.Math.Path.{ap, subst}

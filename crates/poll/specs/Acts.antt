@@ -1,8 +1,6 @@
 -- What an accepted poll does: each item that is due is listed, none is left due at the poll's instant,
 -- and it tells something exactly where it has something to tell.
 use Rattle.std.specs.Prelude.{ℕ, ◌<◌, Bool, true, false, ◌≡◌, []}
-use Rattle.std.proofs.Math.Logic.{⊎_elim}
-use Rattle.std.proofs.Common.{◌∙◌}
 use Rattle.settings.specs.declared.Config.{Config}
 use Rattle.state.specs.declared.State.{State}
 use Rattle.state.specs.declared.Profile.{Profile}

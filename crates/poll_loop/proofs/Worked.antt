@@ -1,7 +1,7 @@
 -- A run of the passes in which the second one has work: the deadline of a delayed cutover at 1 s hands the
 -- final message over to the new current epoch, whose rung at 2 s the second pass finds due at 3 s. Passes
 -- whose later ones are empty, or a poll that leaves the state, do not give this.
-use Rattle.std.specs.Prelude.{◌-◌, ◌≡◌, refl, [], ◌∷◌}
+use Rattle.std.specs.Prelude.{refl}
 use Rattle.time.specs.Lists.{fold, range, kept, take_while}
 use Rattle.time.specs.Time.{later_of, sat_mul, least, most}
 use Rattle.ladder.specs.Ladder.{remaining, next_at_of, due_rungs, taking, take_of}

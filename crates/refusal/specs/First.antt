@@ -1,8 +1,6 @@
 -- The first test that sends a call back: each number is given exactly when its condition is the
 -- first to hold, and none is given exactly when none holds.
-use Rattle.std.specs.Prelude.{ℕ, ◌≤◌, ◌<◌, Bool, true, ◌&&◌, ◌||◌, ◌↔◌, ◌⊎◌, ◌≡◌, List, [], ◌∷◌, ◌++◌, ltb, eqb}
-use Rattle.std.proofs.Common.{true≢false, ⊎_elim, ◌∙◌}
-use Rattle.std.proofs.lemmas.Bool.{false≢true}
+use Rattle.std.specs.Prelude.{ℕ, Bool, true, ◌&&◌, List, [], ◌∷◌, ltb, eqb}
 use Rattle.refusal.specs.Refusal.{any_of, Test}
 
 -- ---- each number

@@ -1,6 +1,5 @@
 -- The conditions on a state, place by place, as the code tries them.
-use Rattle.std.specs.Prelude.{ℕ, Bool, false, ◌&&◌, ◌||◌, ◌≡◌, [], ◌∷◌, ◌++◌, eqb}
-use Rattle.std.proofs.Common.{◌∙◌}
+use Rattle.std.specs.Prelude.{ℕ, Bool, false, ◌&&◌, ◌||◌, eqb}
 use Rattle.time.specs.declared.When.{When}
 use Rattle.time.specs.Pick.{pick}
 use Rattle.epoch.specs.declared.Epoch.{Epoch}

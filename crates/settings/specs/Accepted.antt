@@ -1,5 +1,5 @@
 -- What holds of settings that no check refuses: one fact for each check, and nothing else.
-use Rattle.std.specs.Prelude.{◌≤◌, ◌<◌, ◌+◌, ◌*◌, ◌≡◌, [], ◌∷◌}
+use Rattle.std.specs.Prelude.{◌≤◌, ◌<◌, ◌+◌, ◌*◌}
 use Rattle.settings.specs.declared.Config.{Config}
 
 pub record Accepted (cfg : Config) : Type 0 where

@@ -1,11 +1,7 @@
 -- Where a start is called for, the instant that the wake counts for it is not after now; and the silence interval's cap.
-use Prim.Native.Nat.{ℕ, ◌≤◌, ◌<◌, ◌+◌, ◌-◌}
-use Rattle.std.specs.Prelude.{◌&&◌, ◌||◌, ◌≡◌}
+use Prim.Native.Nat.{ℕ, ◌≤◌}
+use Rattle.std.specs.Prelude.{◌≡◌}
 use Rattle.std.proofs.Math.Bool.{true}
-use Rattle.std.proofs.lemmas.Bool.{false≢true}
-use Rattle.std.proofs.Common.{◌∙◌}
-use mathlib.Core.List.{[], ◌∷◌, ◌++◌}
-use Rattle.time.specs.Time.{none}
 use Rattle.state.specs.declared.State.{State}
 
 -- the link, the last cutover and the current epoch began, none of them after now

@@ -1,6 +1,6 @@
 -- Document 01's own examples of the trigger and of the silence interval, by computing.
 use Rattle.std.specs.Prelude.{◌-◌, ◌^◌, ◌≡◌, pos, negsuc}
-use Rattle.time.specs.Time.{factor_of, backoff_of, least, later_of}
+use Rattle.time.specs.Time.{factor_of, backoff_of, later_of}
 use Rattle.start.specs.Start.{trigger_of}
 
 pub record Examples : Type 0 where

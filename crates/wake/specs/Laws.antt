@@ -1,10 +1,7 @@
 -- What the wake clause of the third demand wants of a state: where the wake is absent or later than now, a poll has nothing to do.
-use Rattle.std.specs.Prelude.{ℕ, ◌≤◌, ◌&&◌, ◌||◌, ◌≡◌, ◌⊎◌}
-use Rattle.std.proofs.lemmas.Bool.{false≢true}
-use Rattle.std.proofs.Common.{◌∙◌}
+use Rattle.std.specs.Prelude.{ℕ}
 use mathlib.Core.List.Memᴰ
-use mathlib.Core.List.{List, [], ◌∷◌, ◌++◌, map}
-use Rattle.start.specs.Start.{instants}
+use mathlib.Core.List.{List, map}
 use Rattle.items.specs.Items.{Item}
 
 -- ---- the instants of items

@@ -1,10 +1,8 @@
-use Prim.Native.Nat.{◌<◌, ◌-◌}
-use mathlib.Core.Path.{◌≡◌, sym, ◌∙◌}
+use Prim.Native.Nat.{◌-◌}
+use mathlib.Core.Path.{sym, ◌∙◌}
 use native.Mathlib.Omega.{arith}
 use borrow.Author.Rules.{rules}
-use lib.ListN.{length, length-set}
-use Rattle.candidates.specs.Held.{chosen, others}
-use Rattle.candidates.specs.Places.{shifting}
+use lib.ListN.{length-set}
 use Rattle.candidates.proofs.Places.{shifting-step, shifting-done, shifting-all}
 use Rattle.candidates.proofs.drop_at.Goals as goal
 

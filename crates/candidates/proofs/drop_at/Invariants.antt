@@ -1,11 +1,8 @@
 use Prim.Native.Nat.{◌<◌, ◌-◌}
-use mathlib.Core.Path.{◌≡◌, sym, ◌∙◌}
-use native.Mathlib.Omega.{arith}
-use borrow.Author.Rules.{rules}
-use lib.ListN.{length, length-set}
+use mathlib.Core.Path.{◌≡◌}
+use lib.ListN.{length}
 use Rattle.candidates.specs.Held.{chosen, others}
 use Rattle.candidates.specs.Places.{shifting}
-use Rattle.candidates.proofs.Places.{shifting-step, shifting-done, shifting-all}
 use Rattle.candidates.proofs.drop_at.Given as goal
 
 -- What is left to move from place j on is what was to be moved.

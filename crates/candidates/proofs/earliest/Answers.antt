@@ -1,9 +1,6 @@
-use Prim.Native.Nat.{◌≤◌, ◌-◌}
-use mathlib.Core.Path.{◌≡◌, refl, sym, ◌∙◌}
-use borrow.Author.Rules.{rules}
-use Rattle.time.specs.Lists.{fold}
-use Rattle.time.specs.Time.{at, none, sooner_of}
-use Rattle.candidates.specs.Held.{between, earliest_of}
+use Prim.Native.Nat.{◌-◌}
+use mathlib.Core.Path.{refl, sym, ◌∙◌}
+use Rattle.candidates.specs.Held.{earliest_of}
 use Rattle.candidates.proofs.Laws.{held-most}
 use Rattle.candidates.proofs.Places.{fold_next, fold_end}
 use Rattle.candidates.proofs.earliest.Goals as goal

@@ -1,11 +1,8 @@
 use Prim.Native.Nat.{◌≤◌, ◌-◌}
-use mathlib.Core.Path.{◌≡◌, refl, sym, ◌∙◌}
-use borrow.Author.Rules.{rules}
+use mathlib.Core.Path.{◌≡◌}
 use Rattle.time.specs.Lists.{fold}
 use Rattle.time.specs.Time.{at, none, sooner_of}
-use Rattle.candidates.specs.Held.{between, earliest_of}
-use Rattle.candidates.proofs.Laws.{held-most}
-use Rattle.candidates.proofs.Places.{fold_next, fold_end}
+use Rattle.candidates.specs.Held.{between}
 use Rattle.candidates.proofs.earliest.Given as goal
 
 -- The least of the deadlines from place i on, and of those before it, is the least of all.

@@ -1,9 +1,6 @@
 use Prim.Native.Nat.{◌≤◌, ◌+◌, ◌-◌}
-use mathlib.Core.Path.{◌≡◌, refl, sym, ◌∙◌}
-use native.Mathlib.Omega.{arith}
-use borrow.Author.Rules.{rules}
+use mathlib.Core.Path.{◌≡◌}
 use Rattle.candidates.specs.Held.{between, place_of}
-use Rattle.candidates.proofs.Places.{place_here, place-on, place_none}
 use Rattle.candidates.proofs.find.Given as goal
 
 -- What is left to find from place j on is what was to be found.

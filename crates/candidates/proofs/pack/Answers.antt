@@ -1,16 +1,11 @@
-use Prim.Native.Nat.{ℕ, ◌≤◌, ◌+◌, ◌-◌}
-use mathlib.Core.Bool.{Bool}
-use mathlib.Core.Path.{◌≡◌, sym, ◌∙◌, ap}
-use mathlib.Core.Logic.{⊎_elim}
-use mathlib.Core.List.{List}
+use Prim.Native.Nat.{◌+◌, ◌-◌}
+use mathlib.Core.Path.{sym, ◌∙◌, ap}
 use native.Mathlib.Nat.{zero-add, add-zero}
 use native.Mathlib.Omega.{arith}
 use borrow.Author.Rules.{rules}
 use borrow.Author.Tests.{lt-ltb, le-ltb}
-use lib.Dec.{ltb}
-use lib.ListN.{length, get_or, length-set}
-use Rattle.candidates.specs.Held.{chosen, younger}
-use Rattle.candidates.specs.Places.{moved, keeping}
+use lib.ListN.{length, length-set}
+use Rattle.candidates.specs.Places.{moved}
 use Rattle.candidates.proofs.Places.{moved-done, moved_all, keeping_in, keeping-out, keeping-end, keeping_all, packed_in}
 use Rattle.candidates.proofs.pack.Invariants.{test}
 use Rattle.candidates.proofs.pack.Goals as goal

@@ -1,8 +1,5 @@
 use Prim.Native.Nat.{◌-◌}
-use mathlib.Core.Path.{◌≡◌, refl, sym, ◌∙◌}
-use borrow.Author.Rules.{rules}
-use Rattle.candidates.specs.Held.{between}
-use Rattle.candidates.specs.Repeats.{repeated}
+use mathlib.Core.Path.{refl, sym, ◌∙◌}
 use Rattle.candidates.proofs.Places.{pair-here, pair-on, pair-none}
 use Rattle.candidates.proofs.pairs.Goals as goal
 

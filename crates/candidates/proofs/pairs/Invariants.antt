@@ -1,9 +1,7 @@
 use Prim.Native.Nat.{◌-◌}
-use mathlib.Core.Path.{◌≡◌, refl, sym, ◌∙◌}
-use borrow.Author.Rules.{rules}
+use mathlib.Core.Path.{◌≡◌}
 use Rattle.candidates.specs.Held.{between}
 use Rattle.candidates.specs.Repeats.{repeated}
-use Rattle.candidates.proofs.Places.{pair-here, pair-on, pair-none}
 use Rattle.candidates.proofs.pairs.Given as goal
 
 -- Whether a number stands twice from place i on is whether one stands twice.

@@ -1,5 +1,4 @@
 use mathlib.Core.Path.{sym, ◌∙◌}
-use borrow.Author.Rules.{rules}
 use Rattle.candidates.proofs.Laws.{held-most}
 use Rattle.candidates.proofs.Places.{rises-once}
 use Rattle.candidates.proofs.repeats.Goals as goal

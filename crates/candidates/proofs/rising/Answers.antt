@@ -1,8 +1,5 @@
 use Prim.Native.Nat.{◌-◌}
-use mathlib.Core.Path.{◌≡◌, sym, ◌∙◌}
-use borrow.Author.Rules.{rules}
-use Rattle.candidates.specs.Held.{between}
-use Rattle.candidates.specs.Repeats.{rises, rises_from}
+use mathlib.Core.Path.{sym, ◌∙◌}
 use Rattle.candidates.proofs.Places.{rising-start, rising-on, rising_not, rising-end}
 use Rattle.candidates.proofs.rising.Goals as goal
 

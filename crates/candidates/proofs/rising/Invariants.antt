@@ -1,9 +1,7 @@
 use Prim.Native.Nat.{◌-◌}
-use mathlib.Core.Path.{◌≡◌, sym, ◌∙◌}
-use borrow.Author.Rules.{rules}
+use mathlib.Core.Path.{◌≡◌}
 use Rattle.candidates.specs.Held.{between}
 use Rattle.candidates.specs.Repeats.{rises, rises_from}
-use Rattle.candidates.proofs.Places.{rising-start, rising-on, rising_not, rising-end}
 use Rattle.candidates.proofs.rising.Given as goal
 
 -- Whether the rest rises from place i on is whether all rise.

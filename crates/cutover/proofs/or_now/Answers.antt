@@ -1,4 +1,3 @@
-use borrow.Author.Rules.{rules}
 use Rattle.cutover.proofs.or_now.Goals as goal
 
 pub returns-else-w : goal.returns-else-w

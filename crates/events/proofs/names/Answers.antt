@@ -1,4 +1,3 @@
-use borrow.Author.Rules.{rules}
 use Rattle.events.proofs.names.Goals as goal
 
 pub returns-then-some : goal.returns-then-some

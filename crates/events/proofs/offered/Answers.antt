@@ -1,9 +1,7 @@
-use Prim.Native.Nat.{◌≤◌, ◌-◌}
-use mathlib.Core.Path.{◌≡◌, refl, sym, ◌∙◌}
+use Prim.Native.Nat.{◌-◌}
+use mathlib.Core.Path.{refl, sym, ◌∙◌}
 use native.Mathlib.Omega.{arith}
-use borrow.Author.Rules.{rules}
 use Rattle.events.proofs.Laws.{taken-most}
-use Rattle.events.specs.Queries.{words_offer, any_from}
 use Rattle.events.proofs.Laws.{any_found, any_next, any-end, any-all}
 use Rattle.events.proofs.offered.Goals as goal
 

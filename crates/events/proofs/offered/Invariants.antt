@@ -1,10 +1,6 @@
 use Prim.Native.Nat.{◌≤◌, ◌-◌}
-use mathlib.Core.Path.{◌≡◌, refl, sym, ◌∙◌}
-use native.Mathlib.Omega.{arith}
-use borrow.Author.Rules.{rules}
-use Rattle.events.proofs.Laws.{taken-most}
+use mathlib.Core.Path.{◌≡◌}
 use Rattle.events.specs.Queries.{words_offer, any_from}
-use Rattle.events.proofs.Laws.{any_found, any_next, any-end, any-all}
 use Rattle.events.proofs.offered.Given as goal
 
 abbrev pub invariant-loop-i : goal.invariant-loop-i

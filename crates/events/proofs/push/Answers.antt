@@ -1,7 +1,6 @@
 use native.Mathlib.Numerals.{towards_suc}
 use Rattle.events.specs.Log.{at, stored}
 use borrow.Author.Tests.{lt-ltb, le-ltb}
-use borrow.Author.Rules.{rules}
 use Rattle.events.proofs.push.Goals as goal
 
 pub returns-then-len-lt96 : goal.returns-then-len-lt96

@@ -1,6 +1,5 @@
 use mathlib.Core.Path.{sym, ◌∙◌}
 use Rattle.events.proofs.Laws.{sifted-moves, sifted_drops}
-use borrow.Author.Rules.{rules}
 use Rattle.events.proofs.sift.Goals as goal
 
 pub returns-then-stays : goal.returns-then-stays

@@ -1,10 +1,7 @@
-use Prim.Native.Nat.{◌≤◌, ◌-◌}
-use mathlib.Core.Path.{◌≡◌, refl, sym, ◌∙◌, ap}
+use Prim.Native.Nat.{◌-◌}
+use mathlib.Core.Path.{refl, sym, ◌∙◌, ap}
 use native.Mathlib.Omega.{arith}
-use borrow.Author.Rules.{rules}
-use Rattle.events.specs.Log.{at}
 use Rattle.events.proofs.Laws.{taken-most}
-use Rattle.events.specs.Withdraw.{given, words_stay}
 use Rattle.events.specs.Withdraw.{sifting}
 use Rattle.events.proofs.Laws.{sifting-next, sifting-end, sifting-all}
 use Rattle.events.proofs.withdraw.Goals as goal

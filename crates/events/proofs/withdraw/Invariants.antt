@@ -1,12 +1,8 @@
 use Prim.Native.Nat.{◌≤◌, ◌-◌}
-use mathlib.Core.Path.{◌≡◌, refl, sym, ◌∙◌, ap}
-use native.Mathlib.Omega.{arith}
-use borrow.Author.Rules.{rules}
+use mathlib.Core.Path.{◌≡◌}
 use Rattle.events.specs.Log.{at}
-use Rattle.events.proofs.Laws.{taken-most}
 use Rattle.events.specs.Withdraw.{given, words_stay}
 use Rattle.events.specs.Withdraw.{sifting}
-use Rattle.events.proofs.Laws.{sifting-next, sifting-end, sifting-all}
 use Rattle.events.proofs.withdraw.Given as goal
 
 abbrev pub invariant-loop-i : goal.invariant-loop-i

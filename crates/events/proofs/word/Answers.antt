@@ -1,6 +1,5 @@
 use Rattle.events.specs.Queries.{word_of}
 use borrow.Author.Tests.{lt-ltb, le-ltb}
-use borrow.Author.Rules.{rules}
 use Rattle.events.proofs.word.Goals as goal
 
 pub returns-then-k-lt8 : goal.returns-then-k-lt8

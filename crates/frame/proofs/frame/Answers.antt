@@ -1,6 +1,5 @@
 use mathlib.Core.Path.{◌≡◌}
 use mir.Facts.{to_z-of_z}
-use borrow.Author.Rules.{rules}
 use Rattle.frame.specs.Frames.{frame_refused}
 use Rattle.frame.proofs.Answer.{frame_back, frame_on}
 use Rattle.frame.proofs.frame.Goals as goal

@@ -2,8 +2,8 @@ use native.Mathlib.Omega.{arith}
 use mathlib.Core.Path.{◌≡◌, refl, sym, ap, ◌∙◌}
 use mathlib.Core.List.{List}
 use native.Mathlib.Numerals.{add-one}
-use Prim.Native.Nat.{ℕ, ◌+◌, ◌-◌, ◌≤◌, zero-le}
-use lib.ListN.{length, set, get_or, length-set}
+use Prim.Native.Nat.{ℕ, ◌+◌, ◌-◌, zero-le}
+use lib.ListN.{set, get_or, length-set}
 use lib.Seq.{paste, paste-zero, paste-suc}
 use Rattle.frame_deliver.proofs.copy.Goals as goal
 

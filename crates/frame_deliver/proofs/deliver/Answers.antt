@@ -3,7 +3,6 @@ use native.Mathlib.Omega.{arith}
 use lib.ListN.{length}
 use Rattle.frame_deliver.specs.Deliver.{deliver_out, deliver_into}
 use Rattle.frame_deliver.proofs.Laws.{reaches-room}
-use borrow.Author.Rules.{rules}
 use Rattle.frame_deliver.proofs.deliver.Goals as goal
 
 pub copy-requires : goal.copy-requires

@@ -1,7 +1,6 @@
 use Rattle.frame_slots.specs.Frame.{frame_of, slot_frame}
 use mir.Facts.{to_z-of_z}
 use borrow.Author.Tests.{eq-eqb, ne_eqb}
-use borrow.Author.Rules.{rules}
 use Rattle.frame_slots.proofs.frame_accepted.Goals as goal
 
 pub returns-then-p-eq-PENDING : goal.returns-then-p-eq-PENDING

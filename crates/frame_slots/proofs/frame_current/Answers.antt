@@ -1,6 +1,5 @@
 use Rattle.frame_slots.specs.Frame.{current_frame}
 use Rattle.events.proofs.Laws.{logged-append}
-use borrow.Author.Rules.{rules}
 use Rattle.frame_slots.proofs.frame_current.Goals as goal
 
 pub returns : goal.returns

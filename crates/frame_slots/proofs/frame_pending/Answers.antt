@@ -1,7 +1,6 @@
 use mir.Facts.{to_z-of_z}
 use Rattle.frame_slots.specs.Frame.{pending_frame}
 use Rattle.events.proofs.Laws.{logged-append}
-use borrow.Author.Rules.{rules}
 use Rattle.frame_slots.proofs.frame_pending.Goals as goal
 
 pub returns : goal.returns

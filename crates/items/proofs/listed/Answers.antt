@@ -1,9 +1,7 @@
-use Prim.Native.Nat.{◌≤◌, ◌-◌}
-use mathlib.Core.Path.{◌≡◌, refl, sym, ◌∙◌}
-use borrow.Author.Rules.{rules}
+use Prim.Native.Nat.{◌-◌}
+use mathlib.Core.Path.{refl, sym, ◌∙◌}
 use Rattle.time.specs.Laws.{least-le}
-use Rattle.items.specs.Items.{item, listed_in}
-use Rattle.items.specs.Arrays.{list_from, most_listed}
+use Rattle.items.specs.Arrays.{most_listed}
 use Rattle.items.proofs.Laws.{listed_here, listed-on, listed-end}
 use Rattle.items.proofs.listed.Goals as goal
 

@@ -1,10 +1,7 @@
 use Prim.Native.Nat.{◌≤◌, ◌-◌}
-use mathlib.Core.Path.{◌≡◌, refl, sym, ◌∙◌}
-use borrow.Author.Rules.{rules}
-use Rattle.time.specs.Laws.{least-le}
+use mathlib.Core.Path.{◌≡◌}
 use Rattle.items.specs.Items.{item, listed_in}
 use Rattle.items.specs.Arrays.{list_from, most_listed}
-use Rattle.items.proofs.Laws.{listed_here, listed-on, listed-end}
 use Rattle.items.proofs.listed.Given as goal
 
 -- Whether the item is listed from place i on is whether it is listed.

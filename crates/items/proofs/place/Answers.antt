@@ -1,10 +1,8 @@
-use Prim.Native.Nat.{◌≤◌, ◌+◌, ◌-◌}
-use mathlib.Core.Path.{◌≡◌, sym, ◌∙◌}
+use Prim.Native.Nat.{◌-◌}
+use mathlib.Core.Path.{sym, ◌∙◌}
 use native.Mathlib.Nat.{zero-add}
 use native.Mathlib.Omega.{arith}
 use borrow.Author.Rules.{rules}
-use Rattle.items.specs.Items.{item}
-use Rattle.items.specs.Arrays.{items_from, place_for}
 use Rattle.items.proofs.Laws.{put-here, put_on, put-end}
 use Rattle.items.proofs.place.Goals as goal
 

@@ -1,11 +1,7 @@
 use Prim.Native.Nat.{◌≤◌, ◌+◌, ◌-◌}
-use mathlib.Core.Path.{◌≡◌, sym, ◌∙◌}
-use native.Mathlib.Nat.{zero-add}
-use native.Mathlib.Omega.{arith}
-use borrow.Author.Rules.{rules}
+use mathlib.Core.Path.{◌≡◌}
 use Rattle.items.specs.Items.{item}
 use Rattle.items.specs.Arrays.{items_from, place_for}
-use Rattle.items.proofs.Laws.{put-here, put_on, put-end}
 use Rattle.items.proofs.place.Given as goal
 
 -- Where the item is put from place i on is where it is put.

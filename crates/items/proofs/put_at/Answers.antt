@@ -1,9 +1,6 @@
-use Prim.Native.Nat.{◌≤◌, ◌<◌}
-use mathlib.Core.Path.{◌≡◌, refl, sym, ◌∙◌}
+use mathlib.Core.Path.{refl, sym, ◌∙◌}
 use native.Mathlib.Omega.{arith}
-use borrow.Author.Rules.{rules}
-use lib.ListN.{length, length-set}
-use Rattle.items.specs.Arrays.{most, opened}
+use lib.ListN.{length-set}
 use Rattle.items.proofs.Laws.{opened-step, opened-done}
 use Rattle.items.proofs.put_at.Goals as goal
 

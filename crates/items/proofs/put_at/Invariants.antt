@@ -1,10 +1,7 @@
 use Prim.Native.Nat.{◌≤◌, ◌<◌}
-use mathlib.Core.Path.{◌≡◌, refl, sym, ◌∙◌}
-use native.Mathlib.Omega.{arith}
-use borrow.Author.Rules.{rules}
-use lib.ListN.{length, length-set}
+use mathlib.Core.Path.{◌≡◌}
+use lib.ListN.{length}
 use Rattle.items.specs.Arrays.{most, opened}
-use Rattle.items.proofs.Laws.{opened-step, opened-done}
 use Rattle.items.proofs.put_at.Given as goal
 
 -- What is left to move from place j on down is what was to be moved.

@@ -1,4 +1,3 @@
-use borrow.Author.Rules.{rules}
 use Rattle.params.proofs.backoff.Goals as goal
 
 pub returns : goal.returns

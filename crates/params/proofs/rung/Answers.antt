@@ -1,5 +1,4 @@
 use Rattle.params.specs.Params.{rung_of}
-use borrow.Author.Rules.{rules}
 use Rattle.params.proofs.rung.Goals as goal
 
 pub returns : goal.returns

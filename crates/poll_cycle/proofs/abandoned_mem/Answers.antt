@@ -1,6 +1,5 @@
 use Rattle.poll_cycle.specs.CycleRows.{abandoned_mem}
 use Rattle.time.specs.Laws.{later_by_sum}
-use borrow.Author.Rules.{rules}
 use Rattle.poll_cycle.proofs.abandoned_mem.Goals as goal
 
 pub returns : goal.returns

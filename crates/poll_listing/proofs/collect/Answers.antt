@@ -1,5 +1,4 @@
 use native.Mathlib.Omega.{arith}
-use borrow.Author.Rules.{rules}
 use Rattle.candidates.proofs.Laws.{held-most}
 use Rattle.poll_listing.specs.Laws.{offer-then, parts-named, collected}
 use Rattle.poll_listing.proofs.collect.Goals as goal

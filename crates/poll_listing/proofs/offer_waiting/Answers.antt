@@ -1,10 +1,7 @@
-use Prim.Native.Nat.{◌≤◌, ◌+◌, ◌-◌}
-use mathlib.Core.Path.{◌≡◌, refl}
+use Prim.Native.Nat.{◌-◌}
+use mathlib.Core.Path.{refl}
 use native.Mathlib.Omega.{arith}
 use Rattle.poll_listing.specs.Laws.{waiting_turn, waiting-done}
-use Rattle.items.specs.Arrays.{items_of, list_of}
-use Rattle.poll_listing.specs.Listing.{offered, waiting_from}
-use borrow.Author.Rules.{rules}
 use Rattle.poll_listing.proofs.offer_waiting.Goals as goal
 
 pub loop-i-init : goal.loop-i-init

@@ -1,11 +1,10 @@
-use Prim.Native.Nat.{◌≤◌, ◌<◌, ◌+◌, ◌-◌}
-use mathlib.Core.Path.{◌≡◌, refl, sym, ◌∙◌, ap}
+use Prim.Native.Nat.{◌<◌, ◌+◌, ◌-◌}
+use mathlib.Core.Path.{refl, sym, ◌∙◌, ap}
 use mathlib.Core.List.{◌++◌, append-nil}
 use native.Mathlib.Omega.{arith}
-use Rattle.items.specs.Arrays.{most_listed, list_of, list_from}
+use Rattle.items.specs.Arrays.{most_listed, list_of}
 use Rattle.poll_pass.specs.Laws.{list-end}
 use Rattle.poll_loop.proofs.Laws.{note-turn, note_count}
-use borrow.Author.Rules.{rules}
 use Rattle.poll_loop.proofs.extend.Goals as goal
 
 pub loop-i-init : goal.loop-i-init

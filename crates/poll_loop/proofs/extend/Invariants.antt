@@ -1,11 +1,7 @@
-use Prim.Native.Nat.{◌≤◌, ◌<◌, ◌+◌, ◌-◌}
-use mathlib.Core.Path.{◌≡◌, refl, sym, ◌∙◌, ap}
-use mathlib.Core.List.{◌++◌, append-nil}
-use native.Mathlib.Omega.{arith}
-use Rattle.items.specs.Arrays.{most_listed, list_of, list_from}
-use Rattle.poll_pass.specs.Laws.{list-end}
-use Rattle.poll_loop.proofs.Laws.{note-turn, note_count}
-use borrow.Author.Rules.{rules}
+use Prim.Native.Nat.{◌≤◌, ◌+◌, ◌-◌}
+use mathlib.Core.Path.{◌≡◌}
+use mathlib.Core.List.{◌++◌}
+use Rattle.items.specs.Arrays.{list_of, list_from}
 use Rattle.poll_loop.proofs.extend.Given as goal
 
 -- What is noted so far and the names from place i on are all the names.

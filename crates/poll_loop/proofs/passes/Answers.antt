@@ -1,9 +1,7 @@
 use Prim.Native.Nat.{◌-◌}
 use native.Mathlib.Omega.{arith}
 use mir.Facts.{to_z-of_z}
-use mir.Syntax.{w32}
-use mir.Val.{to_z}
-use Rattle.poll_loop.proofs.Laws.{Along, along_start, along_over, along_ended, along_none, along-next}
+use Rattle.poll_loop.proofs.Laws.{along_start, along_over, along_ended, along_none, along-next}
 use Rattle.poll_loop.proofs.passes.Goals as goal
 
 pub passes-init : goal.passes-init

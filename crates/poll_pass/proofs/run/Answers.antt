@@ -3,7 +3,7 @@ use Prim.Native.Nat.{◌-◌}
 use native.Mathlib.Omega.{arith}
 use Rattle.time.specs.Laws.{least-le}
 use Rattle.items.specs.Arrays.{most}
-use Rattle.poll_pass.specs.Laws.{Along, along_start, along-next, along_done}
+use Rattle.poll_pass.specs.Laws.{along_start, along-next, along_done}
 use Rattle.poll_pass.proofs.run.Goals as goal
 
 pub loop-i-init : goal.loop-i-init

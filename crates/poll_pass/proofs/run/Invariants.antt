@@ -1,8 +1,5 @@
 use Prim.Native.Nat.{◌-◌}
-use native.Mathlib.Omega.{arith}
-use Rattle.time.specs.Laws.{least-le}
-use Rattle.items.specs.Arrays.{most}
-use Rattle.poll_pass.specs.Laws.{Along, along_start, along-next, along_done}
+use Rattle.poll_pass.specs.Laws.{Along}
 use Rattle.poll_pass.proofs.run.Given as goal
 
 -- What is left of the pass from place i on, after the work so far, gives the whole pass.

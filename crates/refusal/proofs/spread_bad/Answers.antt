@@ -1,4 +1,3 @@
-use borrow.Author.Rules.{rules}
 use mir.Facts.{to_z-of_z}
 use Rattle.refusal.specs.Refusal.{spread_bad}
 use Rattle.refusal.proofs.Signs.{widened, minus, negated, turned}

@@ -1,6 +1,5 @@
 use Rattle.settings.specs.Settings.{failing, first_at}
 use borrow.Author.Tests.{le-leb, lt-leb, lt-ltb, le-ltb, eq-eqb, ne_eqb}
-use borrow.Author.Rules.{rules}
 use Rattle.settings.proofs.triggers.Goals as goal
 
 pub returns-then-cfg-eq0 : goal.returns-then-cfg-eq0

@@ -1,4 +1,3 @@
-use borrow.Author.Rules.{rules}
 use Rattle.start.proofs.aged.Goals as goal
 
 pub returns-then-w : goal.returns-then-w

@@ -1,4 +1,3 @@
-use borrow.Author.Rules.{rules}
 use Rattle.start.proofs.ahead.Goals as goal
 
 pub returns-then-w : goal.returns-then-w

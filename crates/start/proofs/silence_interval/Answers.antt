@@ -1,5 +1,4 @@
 use Rattle.start.specs.Start.{silence_interval}
-use borrow.Author.Rules.{rules}
 use Rattle.start.proofs.silence_interval.Goals as goal
 
 pub returns : goal.returns

@@ -1,5 +1,4 @@
 use Rattle.start.specs.Start.{kind_of}
-use borrow.Author.Rules.{rules}
 use Rattle.start.proofs.start_kind.Goals as goal
 
 pub returns-then-damped : goal.returns-then-damped

@@ -1,6 +1,5 @@
 use Rattle.ladder.specs.Ladder.{taking}
 use Rattle.ladder.specs.Schedule.{rung_at}
-use borrow.Author.Rules.{rules}
 use Rattle.ladder.proofs.Ladder.step.Goals as goal
 
 pub returns : goal.returns

@@ -9,7 +9,6 @@ use lib.ListN.{length, length-map}
 use Rattle.time.specs.Lists.{fold, range, range-more, length-range}
 use Rattle.time.specs.Laws.{least-le, least-left, least-right, decide}
 use Rattle.ladder.specs.Schedule.{max_rungs, keepalive, keepalives}
-use Rattle.ladder.specs.Laws.{Fresh}
 use Rattle.ladder.proofs.Laws.{fresh-put, put-len, rest-counted}
 use Rattle.ladder.specs.Fill.{put_of, losing}
 use Rattle.ladder.proofs.Made.fill.Goals as goal

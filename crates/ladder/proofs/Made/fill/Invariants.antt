@@ -1,17 +1,10 @@
-use borrow.Author.Rules.{rules}
-use native.Mathlib.Omega.{arith}
-use Prim.Native.Nat.{◌≤◌, ◌<◌, ◌-◌, ◌+◌, ◌*◌, ◌/◌}
-use mathlib.Core.Path.{◌≡◌, refl, sym, ◌∙◌, ap}
-use mathlib.Core.List.{◌∷◌, map}
-use mathlib.Core.Logic.{◌⊎◌, inl, inr, ⊎_elim}
-use native.Mathlib.Nat.{sub-zero, le-div_iff_mul-le, le_of_lt}
-use lib.ListN.{length, length-map}
-use Rattle.time.specs.Lists.{fold, range, range-more, length-range}
-use Rattle.time.specs.Laws.{least-le, least-left, least-right, decide}
-use Rattle.ladder.specs.Schedule.{max_rungs, keepalive, keepalives}
+use Prim.Native.Nat.{◌≤◌, ◌-◌, ◌+◌, ◌*◌}
+use mathlib.Core.Path.{◌≡◌}
+use mathlib.Core.List.{map}
+use Rattle.time.specs.Lists.{fold, range}
+use Rattle.ladder.specs.Schedule.{max_rungs, keepalive}
 use Rattle.ladder.specs.Laws.{Fresh}
-use Rattle.ladder.proofs.Laws.{fresh-put, put-len, rest-counted}
-use Rattle.ladder.specs.Fill.{put_of, losing}
+use Rattle.ladder.specs.Fill.{put_of}
 use Rattle.ladder.proofs.Made.fill.Given as goal
 
 -- what is put from i on is all that is put; until the room is used up nothing is dropped

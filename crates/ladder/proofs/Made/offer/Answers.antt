@@ -1,6 +1,5 @@
 use native.Mathlib.Omega.{arith}
 use borrow.Author.Tests.{lt-ltb, le-ltb}
-use borrow.Author.Rules.{rules}
 use Rattle.ladder.specs.Fill.{offered}
 use Rattle.ladder.proofs.Made.offer.Goals as goal
 

@@ -1,15 +1,10 @@
-use borrow.Author.Rules.{rules}
-use native.Mathlib.Omega.{arith}
-use Prim.Native.Nat.{◌≤◌, ◌-◌, ◌+◌}
-use mathlib.Core.Path.{◌≡◌, sym, ◌∙◌, ap}
+use Prim.Native.Nat.{◌≤◌, ◌-◌}
+use mathlib.Core.Path.{◌≡◌}
 use mathlib.Core.List.{map}
-use native.Mathlib.Nat.{sub-zero}
-use Rattle.time.specs.Lists.{fold, range, range-next, range-end}
-use Rattle.time.specs.Laws.{most_ge}
+use Rattle.time.specs.Lists.{fold, range}
 use Rattle.ladder.specs.Schedule.{max_rungs, doubled}
 use Rattle.ladder.specs.Laws.{Fresh}
-use Rattle.ladder.proofs.Laws.{fresh-offered, doubling_all}
-use Rattle.ladder.specs.Fill.{offered, none_yet}
+use Rattle.ladder.specs.Fill.{offered}
 use Rattle.ladder.proofs.Schedule.doubling.Given as goal
 
 -- what is offered from i on is all that is offered

@@ -1,7 +1,7 @@
 use borrow.Author.Rules.{rules}
 use native.Mathlib.Omega.{arith}
-use Prim.Native.Nat.{◌≤◌, ◌-◌, ◌+◌}
-use mathlib.Core.Path.{◌≡◌, sym, ◌∙◌, ap}
+use Prim.Native.Nat.{◌-◌, ◌+◌}
+use mathlib.Core.Path.{sym, ◌∙◌, ap}
 use mathlib.Core.List.{map}
 use native.Mathlib.Nat.{sub-zero}
 use Rattle.time.specs.Time.{none}

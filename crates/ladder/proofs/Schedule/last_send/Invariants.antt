@@ -1,13 +1,8 @@
-use borrow.Author.Rules.{rules}
-use native.Mathlib.Omega.{arith}
-use Prim.Native.Nat.{◌≤◌, ◌-◌, ◌+◌}
-use mathlib.Core.Path.{◌≡◌, sym, ◌∙◌, ap}
+use Prim.Native.Nat.{◌≤◌, ◌-◌}
+use mathlib.Core.Path.{◌≡◌}
 use mathlib.Core.List.{map}
-use native.Mathlib.Nat.{sub-zero}
-use Rattle.time.specs.Time.{none}
-use Rattle.time.specs.Lists.{fold, range, range-next, range-end}
-use Rattle.ladder.specs.Schedule.{max_rungs, last_of, last_send_of, rung_at, rungs_of}
-use Rattle.ladder.proofs.Rungs.{held-most}
+use Rattle.time.specs.Lists.{fold, range}
+use Rattle.ladder.specs.Schedule.{last_of, rung_at}
 use Rattle.ladder.proofs.Schedule.last_send.Given as goal
 
 abbrev pub invariant-loop-i : goal.invariant-loop-i

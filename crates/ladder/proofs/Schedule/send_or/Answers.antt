@@ -1,5 +1,4 @@
 use Rattle.ladder.specs.Schedule.{last_of, rung_at}
-use borrow.Author.Rules.{rules}
 use Rattle.ladder.proofs.Schedule.send_or.Goals as goal
 
 pub returns-then-silent : goal.returns-then-silent

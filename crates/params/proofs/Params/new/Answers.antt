@@ -1,5 +1,4 @@
 use Rattle.params.specs.Params.{new_of, params_of, lengths_of, schedules_of}
-use borrow.Author.Rules.{rules}
 use Rattle.params.proofs.Params.new.Goals as goal
 
 pub returns : goal.returns
