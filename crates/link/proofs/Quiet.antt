@@ -1,5 +1,5 @@
 -- What the quiet test promises: its answer, and what it says of a poll.
-use Rattle.std.specs.Prelude.{Bool, true, false, not, ◌||◌, ◌≡◌, [], ℤ}
+use Rattle.std.specs.Prelude.{Bool, true, false, not, ◌||◌, ◌≡◌, ℤ}
 use Rattle.std.proofs.Common.{sym, ◌∙◌, ap}
 use Rattle.state.specs.declared.State.{State}
 use Rattle.state.specs.declared.Given.{Given}

@@ -1,6 +1,5 @@
 -- What the quiet test promises: its answer, and what it says of a poll.
-use Rattle.std.specs.Prelude.{Bool, true, ◌||◌, ◌≡◌, [], ℤ}
-use Rattle.std.proofs.Common.{◌∙◌}
+use Rattle.std.specs.Prelude.{Bool, true, ◌≡◌, [], ℤ}
 use Rattle.state.specs.declared.State.{State}
 use Rattle.state.specs.declared.Given.{Given}
 use Rattle.answer.specs.Outcome.{done}

@@ -57,6 +57,7 @@ pub fn siklyavon_config_fsp() -> Config
 }
 
 // A fresh link at its instant.
+#[tactic(auto, using(call_open::proofs::Exact::open_exact))]
 pub fn siklyavon_open(
     cfg: Config,
     p: Profile,
@@ -77,6 +78,7 @@ pub fn siklyavon_open(
 }
 
 // A poll at `time`. The log takes the events; a poll that is sent back leaves it as it was.
+#[tactic(auto, using(poll::proofs::Exact::poll_exact, poll::proofs::Acts::poll_acts, law_runs::proofs::Holds::two_runs))]
 pub fn siklyavon_poll(
     s: State,
     cfg: Config,
@@ -97,6 +99,7 @@ pub fn siklyavon_poll(
 
 // A frame that authenticated. Its plaintext is at the front of the source; the target takes what is
 // delivered.
+#[tactic(auto, using(law_runs::proofs::Holds::two_runs))]
 pub fn siklyavon_frame(
     s: State,
     cfg: Config,
@@ -121,6 +124,7 @@ pub fn siklyavon_frame(
 }
 
 // The answer to a START: whether an attempt was opened, and its numbers.
+#[tactic(auto, using(law_runs::proofs::Holds::two_runs))]
 pub fn siklyavon_reply(s: State, cfg: Config, profile: Profile, time: u64, r: StartReply) -> Answer
     ensures reply { Answers (reply_of s cfg profile time r) result [] [] }
     ensures exact { ReplyExact s cfg profile time (reply_of s cfg profile time r) }
@@ -130,6 +134,7 @@ pub fn siklyavon_reply(s: State, cfg: Config, profile: Profile, time: u64, r: St
 }
 
 // A decrypt worker authenticated a frame under `tag`, with that key bit and counter.
+#[tactic(auto, using(notice::proofs::Exact::notice_exact, law_runs::proofs::Holds::two_runs))]
 pub fn siklyavon_worker(
     s: State,
     cfg: Config,
@@ -150,6 +155,7 @@ pub fn siklyavon_worker(
 }
 
 // A decrypt worker accepted the receive copy of the epoch of `tag`.
+#[tactic(auto, using(notice::proofs::Exact::notice_exact, law_runs::proofs::Holds::two_runs))]
 pub fn siklyavon_delegated(
     s: State,
     cfg: Config,
@@ -168,6 +174,7 @@ pub fn siklyavon_delegated(
 }
 
 // The decrypt worker that held the epoch of `tag` is gone.
+#[tactic(auto, using(notice::proofs::Exact::notice_exact, law_runs::proofs::Holds::two_runs))]
 pub fn siklyavon_undelegated(
     s: State,
     cfg: Config,
@@ -186,6 +193,7 @@ pub fn siklyavon_undelegated(
 }
 
 // An application message was sealed.
+#[tactic(auto, using(notice::proofs::Exact::notice_exact, law_runs::proofs::Holds::two_runs))]
 pub fn siklyavon_data_sent(
     s: State,
     cfg: Config,
@@ -203,6 +211,7 @@ pub fn siklyavon_data_sent(
 }
 
 // Whether a next hop exists, and the smoothed round trip where it was measured.
+#[tactic(auto, using(notice::proofs::Exact::notice_exact, law_runs::proofs::Holds::two_runs))]
 pub fn siklyavon_path(
     s: State,
     cfg: Config,
@@ -223,6 +232,7 @@ pub fn siklyavon_path(
 
 // The current epoch's sent count is told at `time`, with which the call is logged. The answer does
 // not depend on it.
+#[tactic(auto, using(law_runs::proofs::Holds::two_runs))]
 pub fn siklyavon_sent(s: State, time: u64, count: u64) -> Answer
     ensures sent { Answers (told_of s count) result [] [] }
     ensures exact { ToldExact s count (told_of s count) }
@@ -242,6 +252,7 @@ pub fn siklyavon_wake(s: State, cfg: Config, p: Profile) -> Woke
 
 // The link line. Its quiet time is the time since the current epoch was heard or started, whichever is
 // later: `QuietLine` says what each call does to it.
+#[tactic(auto, using(law_status::specs::Line::quiet_line))]
 pub fn siklyavon_status(s: State, cfg: Config, p: Profile, time: u64) -> Shown
     ensures status { result ≡ status_of s cfg p time }
     ensures exact { StatusExact s cfg p time (status_of s cfg p time) }
