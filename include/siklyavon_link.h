@@ -1,6 +1,6 @@
 /* The proved rekey link, for C and C++ on x86-64 Linux. rust/src/raw.rs describes the same to Rust.
  *
- * Building. `rt staticlib link`, in the repository's top folder, makes target/staticlib/liblink.a. There
+ * Building. `tools/archive`, in the repository's top folder, makes target/staticlib/liblink.a. There
  * a program is built by
  *   cc -std=c11 -Wall -Wextra -Iinclude program.c target/staticlib/liblink.a -o program
  * The archive needs no library but the C library. examples/tablet.c is a whole program, with a loop that

@@ -32,7 +32,7 @@ fn main() {
     println!("cargo:rerun-if-changed=probe.rs");
     assert!(
         archive.exists(),
-        "{} is not there: run `rt staticlib link` in the repository's top folder first, or name \
+        "{} is not there: run `tools/archive` in the repository's top folder first, or name \
          the folder that has liblink.a in SIKLYAVON_LINK",
         archive.display()
     );
@@ -49,7 +49,7 @@ fn main() {
     assert!(
         compiled.success(),
         "the probe of the records' layout does not compile and link against {}: where that is older \
-         than this crate, run `rt staticlib link` again",
+         than this crate, run `tools/archive` again",
         archive.display()
     );
     let held = Command::new(&probe).output().expect("the probe runs");

@@ -6,8 +6,8 @@
 //! and buffers as they were; the log then tells no event. Every answer is proved to be what its
 //! definition in the repository's `crates/*/specs` says, for every value of every field.
 //!
-//! The archive `target/staticlib/liblink.a` is made by `rt staticlib link` in the repository's top
-//! folder; the environment variable `SIKLYAVON_LINK` names another folder that has it.
+//! The archive `target/staticlib/liblink.a` is made by `tools/archive` of the repository;
+//! the environment variable `SIKLYAVON_LINK` names another folder that has it.
 //!
 //! `cargo run --offline --example tablet` runs a whole host loop (examples/tablet.rs of the
 //! repository). What happens outside of these calls is written into the state by the caller: the

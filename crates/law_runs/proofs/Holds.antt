@@ -31,7 +31,7 @@ use Rattle.law_runs.specs.Late.{poll-late}
 use Rattle.law_runs.specs.Runs.{Kind, poll, named, gave, back, Laws, Late, logged, goes_on, quiet, accepted, heard as heard_by}
 use Rattle.law_runs.specs.Served.{Name, no_buffers, answer_of}
 use Rattle.law_runs.specs.Others.{refused, said}
-use Rattle.law_runs.specs.Woken.{taken, woke-accepted, status-accepted}
+use Rattle.law_runs.proofs.Woken.{taken, woke-accepted, status-accepted}
 use Rattle.law_runs.specs.Link.{Call, a_poll, other, served, kind_of, at_of, step, given, instant_of, wake_for, workers_of, link, TwoRuns}
 use Rattle.law_runs.proofs.TwoRuns.{demand3}
 

@@ -1,2 +1,3 @@
 pub mod TwoRuns
 pub mod Holds
+pub mod Woken

@@ -5,4 +5,3 @@ pub mod Served
 pub mod Others
 pub mod Notices
 pub mod Link
-pub mod Woken

@@ -24,7 +24,7 @@ use Rattle.frame_slots.specs.Frame.{pending_tag, slot_tag, pend_of, pending_fram
 use Rattle.call_open.specs.Blank.{no_final, no_repeats, no_epoch, no_drain, idle, no_candidates}
 use Rattle.start.specs.Start.{latest_of}
 use Rattle.law_status.specs.Hearing.{reverts}
-use Rattle.law_status.specs.Line.{quiet_line}
+use Rattle.law_status.proofs.Line.{quiet_line}
 use Rattle.law_worked.specs.Worked.{pair}
 use Rattle.law_worked.specs.Notices.{assumed_pair}
 

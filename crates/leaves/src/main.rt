@@ -3,34 +3,35 @@
 // other line with its answer lines, which begin so. A line that does not read is told on standard
 // error, and the program stops there.
 #![tactic(auto)]
+
 mod forms;
 
 use leaves_requests::{Form, ROW};
-use libc::{STDIN_FILENO, STDOUT_FILENO};
+use std::io::Read;
 use text_lines::{Input, Output};
 
-fn main() {
+fn main(rt: HostRuntime) {
     let mut buf = io::large_buffer();
     let mut out = io::large_buffer();
-    filter(&mut buf, &mut out);
+    filter(&rt, &mut rt.stdin(), &mut buf, &mut out);
 }
 
-fn filter(buf: &mut [u8], out: &mut [u8]) {
+fn filter(rt: &(impl Print + Eprint), from: &mut impl Read, buf: &mut [u8], out: &mut [u8]) {
     let mut input = Input::new();
     let mut o = Output::new();
     let mut number: u64 = 0;
     while number < 18446744073709551615 {
         number += 1;
-        let line = input.line(STDIN_FILENO, buf);
+        let line = input.line(from, buf);
         input = line.input;
         if !line.some {
-            text_lines::tell_no_line(number, input);
-            finish(out, o, number);
+            text_lines::tell_no_line(rt, number, input);
+            finish(rt, out, o, number);
             return;
         }
         let start = line.start;
         let end = line.end;
-        o = respond(&buf[start..end], out, o, number);
+        o = respond(rt, &buf[start..end], out, o, number);
         if o.failed {
             return;
         }
@@ -38,15 +39,21 @@ fn filter(buf: &mut [u8], out: &mut [u8]) {
 }
 
 // Writes out what is left of the answers.
-fn finish(out: &[u8], o: Output, number: u64) {
-    if o.flush(STDOUT_FILENO, out).failed {
-        text_lines::tell(number, b"the answers cannot be written.");
+fn finish(rt: &(impl Print + Eprint), out: &[u8], o: Output, number: u64) {
+    if o.flush(rt, out).failed {
+        text_lines::tell(rt, number, b"the answers cannot be written.");
     }
 }
 
 // Writes a line and its answers, unless it is an answer itself. Where that fails, or the line does
 // not read, it is told, and the output is left as failed.
-fn respond(line: &[u8], out: &mut [u8], o: Output, number: u64) -> Output {
+fn respond(
+    rt: &(impl Print + Eprint),
+    line: &[u8],
+    out: &mut [u8],
+    o: Output,
+    number: u64,
+) -> Output {
     if is_answer(line) {
         return o;
     }
@@ -55,10 +62,10 @@ fn respond(line: &[u8], out: &mut [u8], o: Output, number: u64) -> Output {
     let scan = request.scan;
     if scan.fault == text::NONE {
         let form = leaves_requests::answer(request.index, &mut v);
-        return write(line, out, o, number, form, &v);
+        return write(rt, line, out, o, number, form, &v);
     }
-    finish(out, o, number);
-    text_lines::tell_fault(number, line, scan);
+    finish(rt, out, o, number);
+    text_lines::tell_fault(rt, number, line, scan);
     Output {
         at: 0,
         failed: true,
@@ -77,6 +84,7 @@ fn is_answer(line: &[u8]) -> bool {
 }
 
 fn write(
+    rt: &(impl Print + Eprint),
     line: &[u8],
     out: &mut [u8],
     o: Output,
@@ -84,11 +92,11 @@ fn write(
     form: Form,
     v: &[u64; ROW],
 ) -> Output {
-    let asked = o.bytes(STDOUT_FILENO, out, line);
-    let ended = asked.bytes(STDOUT_FILENO, out, b"\n");
-    let answered = forms::write(out, ended, form, v);
+    let asked = o.bytes(rt, out, line);
+    let ended = asked.bytes(rt, out, b"\n");
+    let answered = forms::write(rt, out, ended, form, v);
     if answered.failed {
-        text_lines::tell(number, b"the answers cannot be written.");
+        text_lines::tell(rt, number, b"the answers cannot be written.");
     }
     answered
 }

@@ -7,7 +7,7 @@ use time::When;
 
 // How an answer is written: the lines of the program's text from `from` to `to`, not including
 // `to`.
-#[derive(Drop)]
+#[derive(Clone, Copy)]
 pub struct Form {
     pub from: usize,
     pub to: usize,

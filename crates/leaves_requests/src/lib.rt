@@ -1,6 +1,7 @@
 // Requests to the time, schedules, ladders and settings of a link, and their answers, as rows of
 // numbers.
 #![tactic(auto)]
+
 mod answers;
 mod patterns;
 mod row;

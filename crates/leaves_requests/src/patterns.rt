@@ -8,14 +8,14 @@ use crate::row::ROW;
 use text::Scan;
 
 // Which request a line is, and the scan past it.
-#[derive(Drop)]
+#[derive(Clone, Copy)]
 pub struct Request {
     pub scan: Scan,
     pub index: usize,
 }
 
 // How far a request is read, and the place of its next number.
-#[derive(Drop)]
+#[derive(Clone, Copy)]
 struct Cursor {
     scan: Scan,
     at: usize,

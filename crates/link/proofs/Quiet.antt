@@ -5,7 +5,7 @@ use Rattle.state.specs.declared.State.{State}
 use Rattle.state.specs.declared.Given.{Given}
 use Rattle.law_runs.specs.Runs.{quiet}
 use Rattle.law_runs.specs.Link.{link}
-use Rattle.law_runs.specs.Woken.{quiet-poll, quiet-still}
+use Rattle.law_runs.proofs.Woken.{quiet-poll, quiet-still}
 use Rattle.link_quiet.specs.Busy.{first_busy, other_busy, alone_of}
 use Rattle.link_quiet.specs.Still.{still-parts, alone-none}
 use Rattle.link.specs.Quiet.{Tells, polled}

@@ -1,7 +1,8 @@
-// The calls of a link, exported for Rust and C: each is the proved call and promises what that call
-// promises. Records cross by value, laid out as C does; no enum crosses; the log and a frame's two
+// The calls of a link, as crate link_c exports them for Rust and C: each is the proved call and promises what
+// that call promises. Records cross by value, laid out as C does; no enum crosses; the log and a frame's two
 // buffers are lent.
 #![tactic(auto)]
+
 ghost use Rattle.std.specs.Prelude.{◌≡◌, []};
 ghost use Rattle.settings.specs.Settings.{fmp, fsp, place_of};
 ghost use Rattle.answer.specs.Answers.{Answers};
@@ -35,32 +36,28 @@ use state::{Given, Profile, State};
 use time::When;
 
 // The place of the first check that refuses the settings, from 1; 0 where they are accepted.
-#[unsafe(no_mangle)]
-pub extern "C" fn siklyavon_settings(cfg: Config) -> u8
+pub fn siklyavon_settings(cfg: Config) -> u8
     ensures { result ≡ place_of cfg }
 {
     settings::place(cfg)
 }
 
 // The settings of a link that names no others.
-#[unsafe(no_mangle)]
-pub extern "C" fn siklyavon_config_fmp() -> Config
+pub fn siklyavon_config_fmp() -> Config
     ensures { result ≡ fmp }
 {
     Config::fmp()
 }
 
 // The settings of an end-to-end session that names no others.
-#[unsafe(no_mangle)]
-pub extern "C" fn siklyavon_config_fsp() -> Config
+pub fn siklyavon_config_fsp() -> Config
     ensures { result ≡ fsp }
 {
     Config::fsp()
 }
 
 // A fresh link at its instant.
-#[unsafe(no_mangle)]
-pub extern "C" fn siklyavon_open(
+pub fn siklyavon_open(
     cfg: Config,
     p: Profile,
     responder: bool,
@@ -80,8 +77,7 @@ pub extern "C" fn siklyavon_open(
 }
 
 // A poll at `time`. The log takes the events; a poll that is sent back leaves it as it was.
-#[unsafe(no_mangle)]
-pub extern "C" fn siklyavon_poll(
+pub fn siklyavon_poll(
     s: State,
     cfg: Config,
     p: Profile,
@@ -101,8 +97,7 @@ pub extern "C" fn siklyavon_poll(
 
 // A frame that authenticated. Its plaintext is at the front of the source; the target takes what is
 // delivered.
-#[unsafe(no_mangle)]
-pub extern "C" fn siklyavon_frame(
+pub fn siklyavon_frame(
     s: State,
     cfg: Config,
     profile: Profile,
@@ -126,14 +121,7 @@ pub extern "C" fn siklyavon_frame(
 }
 
 // The answer to a START: whether an attempt was opened, and its numbers.
-#[unsafe(no_mangle)]
-pub extern "C" fn siklyavon_reply(
-    s: State,
-    cfg: Config,
-    profile: Profile,
-    time: u64,
-    r: StartReply,
-) -> Answer
+pub fn siklyavon_reply(s: State, cfg: Config, profile: Profile, time: u64, r: StartReply) -> Answer
     ensures reply { Answers (reply_of s cfg profile time r) result [] [] }
     ensures exact { ReplyExact s cfg profile time (reply_of s cfg profile time r) }
     ensures runs { TwoRuns }
@@ -142,8 +130,7 @@ pub extern "C" fn siklyavon_reply(
 }
 
 // A decrypt worker authenticated a frame under `tag`, with that key bit and counter.
-#[unsafe(no_mangle)]
-pub extern "C" fn siklyavon_worker(
+pub fn siklyavon_worker(
     s: State,
     cfg: Config,
     p: Profile,
@@ -163,8 +150,7 @@ pub extern "C" fn siklyavon_worker(
 }
 
 // A decrypt worker accepted the receive copy of the epoch of `tag`.
-#[unsafe(no_mangle)]
-pub extern "C" fn siklyavon_delegated(
+pub fn siklyavon_delegated(
     s: State,
     cfg: Config,
     p: Profile,
@@ -182,8 +168,7 @@ pub extern "C" fn siklyavon_delegated(
 }
 
 // The decrypt worker that held the epoch of `tag` is gone.
-#[unsafe(no_mangle)]
-pub extern "C" fn siklyavon_undelegated(
+pub fn siklyavon_undelegated(
     s: State,
     cfg: Config,
     p: Profile,
@@ -201,8 +186,7 @@ pub extern "C" fn siklyavon_undelegated(
 }
 
 // An application message was sealed.
-#[unsafe(no_mangle)]
-pub extern "C" fn siklyavon_data_sent(
+pub fn siklyavon_data_sent(
     s: State,
     cfg: Config,
     p: Profile,
@@ -219,8 +203,7 @@ pub extern "C" fn siklyavon_data_sent(
 }
 
 // Whether a next hop exists, and the smoothed round trip where it was measured.
-#[unsafe(no_mangle)]
-pub extern "C" fn siklyavon_path(
+pub fn siklyavon_path(
     s: State,
     cfg: Config,
     p: Profile,
@@ -240,8 +223,7 @@ pub extern "C" fn siklyavon_path(
 
 // The current epoch's sent count is told at `time`, with which the call is logged. The answer does
 // not depend on it.
-#[unsafe(no_mangle)]
-pub extern "C" fn siklyavon_sent(s: State, time: u64, count: u64) -> Answer
+pub fn siklyavon_sent(s: State, time: u64, count: u64) -> Answer
     ensures sent { Answers (told_of s count) result [] [] }
     ensures exact { ToldExact s count (told_of s count) }
     ensures runs { TwoRuns }
@@ -251,8 +233,7 @@ pub extern "C" fn siklyavon_sent(s: State, time: u64, count: u64) -> Answer
 
 // The wake: where workers are off and something is held, a poll before it has nothing to do (the wake
 // clause of demand 3 has the conditions). It may itself come too early.
-#[unsafe(no_mangle)]
-pub extern "C" fn siklyavon_wake(s: State, cfg: Config, p: Profile) -> Woke
+pub fn siklyavon_wake(s: State, cfg: Config, p: Profile) -> Woke
     ensures wake { result ≡ woke_of s cfg p }
     ensures exact { WakeExact s cfg p (woke_of s cfg p) }
 {
@@ -261,8 +242,7 @@ pub extern "C" fn siklyavon_wake(s: State, cfg: Config, p: Profile) -> Woke
 
 // The link line. Its quiet time is the time since the current epoch was heard or started, whichever is
 // later: `QuietLine` says what each call does to it.
-#[unsafe(no_mangle)]
-pub extern "C" fn siklyavon_status(s: State, cfg: Config, p: Profile, time: u64) -> Shown
+pub fn siklyavon_status(s: State, cfg: Config, p: Profile, time: u64) -> Shown
     ensures status { result ≡ status_of s cfg p time }
     ensures exact { StatusExact s cfg p time (status_of s cfg p time) }
     ensures line { QuietLine }
@@ -274,8 +254,7 @@ pub extern "C" fn siklyavon_status(s: State, cfg: Config, p: Profile, time: u64)
 // teardown standing and no offer owed. Then it would give the state back, with no event and count 0;
 // every other poll is for the log. The state is read where it stands: what is copied of it is what
 // the test reads.
-#[unsafe(no_mangle)]
-pub extern "C" fn siklyavon_quiet(s: &State, g: Given, spread: i32) -> bool
+pub fn siklyavon_quiet(s: &State, g: Given, spread: i32) -> bool
     ensures { Tells s.now g spread result }
 {
     let first = *s;
@@ -291,48 +270,42 @@ pub extern "C" fn siklyavon_quiet(s: &State, g: Given, spread: i32) -> bool
 }
 
 // A sample of the record, for the caller's layout.
-#[unsafe(no_mangle)]
-pub extern "C" fn siklyavon_sample_state(spread: i32) -> State
+pub fn siklyavon_sample_state(spread: i32) -> State
     ensures { result ≡ whole_of spread }
 {
     link_sample::whole(spread)
 }
 
 // A sample of the record, for the caller's layout.
-#[unsafe(no_mangle)]
-pub extern "C" fn siklyavon_sample_config() -> Config
+pub fn siklyavon_sample_config() -> Config
     ensures { result ≡ values_of }
 {
     link_sample::values()
 }
 
 // A sample of the record, for the caller's layout.
-#[unsafe(no_mangle)]
-pub extern "C" fn siklyavon_sample_profile() -> Profile
+pub fn siklyavon_sample_profile() -> Profile
     ensures { result ≡ flags_of }
 {
     link_sample::flags()
 }
 
 // A sample of the record, for the caller's layout.
-#[unsafe(no_mangle)]
-pub extern "C" fn siklyavon_sample_given() -> Given
+pub fn siklyavon_sample_given() -> Given
     ensures { result ≡ beside_of }
 {
     link_sample::beside()
 }
 
 // A sample of the record, for the caller's layout.
-#[unsafe(no_mangle)]
-pub extern "C" fn siklyavon_sample_proof() -> FrameProof
+pub fn siklyavon_sample_proof() -> FrameProof
     ensures { result ≡ proof_of }
 {
     link_sample::proof()
 }
 
 // A sample of the record, for the caller's layout.
-#[unsafe(no_mangle)]
-pub extern "C" fn siklyavon_sample_reply() -> StartReply
+pub fn siklyavon_sample_reply() -> StartReply
     ensures { result ≡ answer_of }
 {
     link_sample::answer()

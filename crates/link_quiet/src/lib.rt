@@ -5,6 +5,7 @@
 // It has two parts, each on a copy of its own: of a copy every field that some test reads is loaded
 // at once, and most states need only the first part.
 #![tactic(auto)]
+
 ghost use Rattle.std.specs.Prelude.{◌≤◌, ◌<◌, not, ◌||◌, ◌≡◌, [], ◌++◌};
 ghost use Rattle.time.specs.Pick.{pick};
 ghost use Rattle.time.specs.Time.{reached_of};

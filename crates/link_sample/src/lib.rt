@@ -1,6 +1,7 @@
 // A sample of each record that crosses to Rust, every field with a number or a flag of its own
 // within its record: a caller that lays a record out differently reads something else.
 #![tactic(auto)]
+
 ghost use Rattle.std.specs.Prelude.{◌≡◌};
 ghost use Rattle.link_sample.specs.Sample.{rungs_of, last_of, repeats_of, keys_of, held_of, kept_of, own_of, ready_of, theirs_of, turn_of, waiting_of, facts_of, whole_of, values_of, flags_of, beside_of, proof_of, answer_of};
 
@@ -14,6 +15,7 @@ use settings::Config;
 use state::{Bit, Given, Memory, Profile, State};
 use time::When;
 
+#[tactic(auto, unfolding(crate::specs::Sample::rungs_of))]
 pub fn rungs() -> Ladder
     ensures { result ≡ rungs_of }
 {
@@ -29,6 +31,7 @@ pub fn rungs() -> Ladder
     }
 }
 
+#[tactic(auto, unfolding(crate::specs::Sample::last_of))]
 pub fn last() -> Final
     ensures { result ≡ last_of }
 {
@@ -40,6 +43,7 @@ pub fn last() -> Final
     }
 }
 
+#[tactic(auto, unfolding(crate::specs::Sample::repeats_of))]
 pub fn repeats() -> MayLadder
     ensures { result ≡ repeats_of }
 {
@@ -50,6 +54,7 @@ pub fn repeats() -> MayLadder
     }
 }
 
+#[tactic(auto, unfolding(crate::specs::Sample::keys_of))]
 pub fn keys() -> Epoch
     ensures { result ≡ keys_of }
 {
@@ -88,6 +93,7 @@ pub fn keys() -> Epoch
     }
 }
 
+#[tactic(auto, unfolding(crate::specs::Sample::held_of))]
 pub fn held() -> MayEpoch
     ensures { result ≡ held_of }
 {
@@ -95,6 +101,7 @@ pub fn held() -> MayEpoch
     MayEpoch { some: true, ep: ep }
 }
 
+#[tactic(auto, unfolding(crate::specs::Sample::kept_of))]
 pub fn kept() -> Drain
     ensures { result ≡ kept_of }
 {
@@ -107,6 +114,7 @@ pub fn kept() -> Drain
     }
 }
 
+#[tactic(auto, unfolding(crate::specs::Sample::own_of))]
 pub fn own() -> Attempt
     ensures { result ≡ own_of }
 {
@@ -126,6 +134,7 @@ pub fn own() -> Attempt
     }
 }
 
+#[tactic(auto, unfolding(crate::specs::Sample::ready_of))]
 pub fn ready() -> PendI
     ensures { result ≡ ready_of }
 {
@@ -145,6 +154,7 @@ pub fn ready() -> PendI
     }
 }
 
+#[tactic(auto, unfolding(crate::specs::Sample::theirs_of))]
 pub fn theirs() -> PendR
     ensures { result ≡ theirs_of }
 {
@@ -157,6 +167,7 @@ pub fn theirs() -> PendR
     }
 }
 
+#[tactic(auto, unfolding(crate::specs::Sample::turn_of))]
 pub fn turn() -> Cycle
     ensures { result ≡ turn_of }
 {
@@ -171,6 +182,7 @@ pub fn turn() -> Cycle
     }
 }
 
+#[tactic(auto, unfolding(crate::specs::Sample::waiting_of))]
 pub fn waiting() -> Candidates
     ensures { result ≡ waiting_of }
 {
@@ -190,6 +202,7 @@ pub fn waiting() -> Candidates
     }
 }
 
+#[tactic(auto, unfolding(crate::specs::Sample::facts_of))]
 pub fn facts(spread: i32) -> Memory
     ensures { result ≡ facts_of spread }
 {
@@ -217,6 +230,7 @@ pub fn facts(spread: i32) -> Memory
     }
 }
 
+#[tactic(auto, unfolding(crate::specs::Sample::whole_of))]
 pub fn whole(spread: i32) -> State
     ensures { result ≡ whole_of spread }
 {
@@ -234,6 +248,7 @@ pub fn whole(spread: i32) -> State
     }
 }
 
+#[tactic(auto, unfolding(crate::specs::Sample::values_of))]
 pub fn values() -> Config
     ensures { result ≡ values_of }
 {
@@ -264,6 +279,7 @@ pub fn values() -> Config
     }
 }
 
+#[tactic(auto, unfolding(crate::specs::Sample::flags_of))]
 pub fn flags() -> Profile
     ensures { result ≡ flags_of }
 {
@@ -276,6 +292,7 @@ pub fn flags() -> Profile
     }
 }
 
+#[tactic(auto, unfolding(crate::specs::Sample::beside_of))]
 pub fn beside() -> Given
     ensures { result ≡ beside_of }
 {
@@ -290,6 +307,7 @@ pub fn beside() -> Given
     }
 }
 
+#[tactic(auto, unfolding(crate::specs::Sample::proof_of))]
 pub fn proof() -> FrameProof
     ensures { result ≡ proof_of }
 {
@@ -303,6 +321,7 @@ pub fn proof() -> FrameProof
     }
 }
 
+#[tactic(auto, unfolding(crate::specs::Sample::answer_of))]
 pub fn answer() -> StartReply
     ensures { result ≡ answer_of }
 {

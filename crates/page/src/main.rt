@@ -2,41 +2,42 @@
 // crates `text_lists` and `text_words` say, and no entry lacks a row. It reads the page and writes a line
 // for each row that does not agree, and how many do.
 #![tactic(auto)]
+
 mod rows;
 
-use libc::{STDIN_FILENO, STDOUT_FILENO};
 use rows::Row;
+use std::io::Read;
 use text_lines::{Input, Output};
 
 // The output so far, the row that comes next, and how many were there.
-#[derive(Drop)]
+#[derive(Clone, Copy)]
 struct Step {
     o: Output,
     row: Row,
     count: u64,
 }
 
-fn main() {
+fn main(rt: HostRuntime) {
     let mut buf = io::large_buffer();
     let mut out = io::large_buffer();
-    filter(&mut buf, &mut out);
+    filter(&rt, &mut rt.stdin(), &mut buf, &mut out);
 }
 
-fn filter(buf: &mut [u8], out: &mut [u8]) {
+fn filter(rt: &impl Print, from: &mut impl Read, buf: &mut [u8], out: &mut [u8]) {
     let mut input = Input::new();
     let mut step = begin();
     let mut number: u64 = 0;
     while number < time::END {
         number += 1;
-        let line = input.line(STDIN_FILENO, buf);
+        let line = input.line(from, buf);
         input = line.input;
         if !line.some {
-            end(out, step);
+            end(rt, out, step);
             return;
         }
         let start = line.start;
         let end = line.end;
-        step = respond(&buf[start..end], out, step, number);
+        step = respond(rt, &buf[start..end], out, step, number);
     }
 }
 
@@ -48,7 +49,7 @@ fn begin() -> Step {
     }
 }
 
-fn respond(line: &[u8], out: &mut [u8], step: Step, number: u64) -> Step {
+fn respond(rt: &impl Print, line: &[u8], out: &mut [u8], step: Step, number: u64) -> Step {
     let mut wanted = [0u8; rows::LONGEST];
     let row = step.row;
     if !is_row(line) {
@@ -58,7 +59,7 @@ fn respond(line: &[u8], out: &mut [u8], step: Step, number: u64) -> Step {
     if rows::begins(line, &wanted, n) {
         return found(step, rows::next(row));
     }
-    let o = tell(out, step.o, number, &wanted);
+    let o = tell(rt, out, step.o, number, &wanted);
     let mut next = step;
     next.o = o;
     next
@@ -85,32 +86,32 @@ fn is_row(line: &[u8]) -> bool {
     }
 }
 
-fn tell(out: &mut [u8], o: Output, number: u64, wanted: &[u8]) -> Output {
-    let named = o.bytes(STDOUT_FILENO, out, b"line ");
-    let numbered = named.number(STDOUT_FILENO, out, number);
-    tell_wanted(out, numbered, wanted)
+fn tell(rt: &impl Print, out: &mut [u8], o: Output, number: u64, wanted: &[u8]) -> Output {
+    let named = o.bytes(rt, out, b"line ");
+    let numbered = named.number(rt, out, number);
+    tell_wanted(rt, out, numbered, wanted)
 }
 
-fn tell_wanted(out: &mut [u8], o: Output, wanted: &[u8]) -> Output {
-    let apart = o.bytes(STDOUT_FILENO, out, b": wanted is ");
-    let shown = apart.bytes(STDOUT_FILENO, out, wanted);
-    shown.bytes(STDOUT_FILENO, out, b"\n")
+fn tell_wanted(rt: &impl Print, out: &mut [u8], o: Output, wanted: &[u8]) -> Output {
+    let apart = o.bytes(rt, out, b": wanted is ");
+    let shown = apart.bytes(rt, out, wanted);
+    shown.bytes(rt, out, b"\n")
 }
 
-fn end(out: &mut [u8], step: Step) {
+fn end(rt: &impl Print, out: &mut [u8], step: Step) {
     let mut wanted = [0u8; rows::LONGEST];
     let row = step.row;
-    let o = count(out, step.o, step.count);
+    let o = count(rt, out, step.o, step.count);
     if rows::is_done(row) {
-        o.flush(STDOUT_FILENO, out);
+        o.flush(rt, out);
         return;
     }
     rows::put_row(row, &mut wanted);
-    let told = tell_wanted(out, o, &wanted);
-    told.flush(STDOUT_FILENO, out);
+    let told = tell_wanted(rt, out, o, &wanted);
+    told.flush(rt, out);
 }
 
-fn count(out: &mut [u8], o: Output, n: u64) -> Output {
-    let counted = o.number(STDOUT_FILENO, out, n);
-    counted.bytes(STDOUT_FILENO, out, b" rows agree\n")
+fn count(rt: &impl Print, out: &mut [u8], o: Output, n: u64) -> Output {
+    let counted = o.number(rt, out, n);
+    counted.bytes(rt, out, b" rows agree\n")
 }

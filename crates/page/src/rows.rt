@@ -7,7 +7,7 @@ use text_words::Argument;
 pub const LONGEST: usize = 256;
 
 // A list, and the number of an entry in it. Behind the lists stand the settings and the profile.
-#[derive(Drop)]
+#[derive(Clone, Copy)]
 pub struct Row {
     pub list: u8,
     pub number: u64,

@@ -7,7 +7,7 @@ use text_lines::Output;
 // Whether the block is a run, and which of its lines have been read. Where the state claims more than
 // the row keeps, `claim` is the length of its line, which is kept beside the link, else 0: every call
 // but `open` leaves such a state.
-#[derive(Drop)]
+#[derive(Clone, Copy)]
 pub struct Block {
     pub run: bool,
     pub cfg: bool,
@@ -17,7 +17,7 @@ pub struct Block {
 }
 
 // The output and the block so far, and whether the program is to stop.
-#[derive(Drop)]
+#[derive(Clone, Copy)]
 pub struct Step {
     pub o: Output,
     pub block: Block,
@@ -25,7 +25,7 @@ pub struct Step {
 }
 
 // What a line leaves.
-#[derive(Drop)]
+#[derive(Clone, Copy)]
 pub struct Turn {
     pub step: Step,
     pub link: Link,

@@ -1,7 +1,6 @@
 // Lists, line by line: each line is read, and then changes the link or is answered.
 use crate::blocks::{Step, Turn};
 use crate::{blocks, reading};
-use libc::STDOUT_FILENO;
 use replay_answers::Told;
 use state::State;
 use text::Scan;
@@ -20,12 +19,12 @@ const CFG: usize = 2;
 const PROFILE: usize = 3;
 
 // Writes a line and its answers, unless it is an answer itself.
-pub fn respond(given: &[u8], out: &mut [u8], turn: Turn, kept: &mut [u8], number: u64) -> Turn {
+pub fn respond(rt: &(impl Print + Eprint), given: &[u8], out: &mut [u8], turn: Turn, kept: &mut [u8], number: u64) -> Turn {
     let n = text_lines::line_end(given);
-    text_lines::progress(number);
-    let next = answer(&given[..n], out, turn, kept, number);
+    text_lines::progress(rt, number);
+    let next = answer(rt, &given[..n], out, turn, kept, number);
     let link = next.link;
-    turned(reading::checked(next.step, number), link)
+    turned(reading::checked(rt, next.step, number), link)
 }
 
 fn turned(step: Step, link: Link) -> Turn {
@@ -35,7 +34,7 @@ fn turned(step: Step, link: Link) -> Turn {
     }
 }
 
-fn answer(line: &[u8], out: &mut [u8], turn: Turn, kept: &mut [u8], number: u64) -> Turn {
+fn answer(rt: &(impl Print + Eprint), line: &[u8], out: &mut [u8], turn: Turn, kept: &mut [u8], number: u64) -> Turn {
     if is_answer(line) {
         return turn;
     }
@@ -44,9 +43,9 @@ fn answer(line: &[u8], out: &mut [u8], turn: Turn, kept: &mut [u8], number: u64)
     let step = turn.step;
     let link = turn.link;
     if scan.fault == text::NONE {
-        return given(line, out, step, link, kept, number, word.index, scan);
+        return given(rt, line, out, step, link, kept, number, word.index, scan);
     }
-    call(line, out, step, link, number)
+    call(rt, line, out, step, link, number)
 }
 
 fn is_answer(line: &[u8]) -> bool {
@@ -62,6 +61,7 @@ fn is_answer(line: &[u8]) -> bool {
 
 // A line that is no call.
 fn given(
+    rt: &(impl Print + Eprint),
     line: &[u8],
     out: &mut [u8],
     step: Step,
@@ -72,10 +72,10 @@ fn given(
     scan: Scan,
 ) -> Turn {
     match index {
-        VECTOR | RUN => begin(line, out, step, link, kept, number, index == RUN, scan),
-        CFG => cfg(line, out, step, link, number, scan),
-        PROFILE => profile(line, out, step, link, number, scan),
-        _ => claimed(line, kept, state(line, out, step, link, number, scan)),
+        VECTOR | RUN => begin(rt, line, out, step, link, kept, number, index == RUN, scan),
+        CFG => cfg(rt, line, out, step, link, number, scan),
+        PROFILE => profile(rt, line, out, step, link, number, scan),
+        _ => claimed(line, kept, state(rt, line, out, step, link, number, scan)),
     }
 }
 
@@ -95,6 +95,7 @@ fn claimed(line: &[u8], kept: &mut [u8], turn: Turn) -> Turn {
 
 // `vector N` and `run N`
 fn begin(
+    rt: &(impl Print + Eprint),
     line: &[u8],
     out: &mut [u8],
     step: Step,
@@ -107,15 +108,15 @@ fn begin(
     let mut v = [0u64; 1];
     let read = text_form::read_fields(line, scan, text_words::BLOCK, &mut v);
     if read.scan.fault != text::NONE {
-        return turned(reading::stopped(line, out, step, number, read), link);
+        return turned(reading::stopped(rt, line, out, step, number, read), link);
     }
-    let closed = close(out, step, link.state, kept);
-    turned(reading::begin(line, out, step, closed, run), link)
+    let closed = close(rt, out, step, link.state, kept);
+    turned(reading::begin(rt, line, out, step, closed, run), link)
 }
 
-fn cfg(line: &[u8], out: &mut [u8], step: Step, link: Link, number: u64, scan: Scan) -> Turn {
+fn cfg(rt: &(impl Print + Eprint), line: &[u8], out: &mut [u8], step: Step, link: Link, number: u64, scan: Scan) -> Turn {
     let mut v = [0u64; places::SETTINGS];
-    let next = reading::cfg(line, out, step, number, scan, &mut v);
+    let next = reading::cfg(rt, line, out, step, number, scan, &mut v);
     let read = text_records::config_of(&v);
     let mut changed = link;
     if !next.stop {
@@ -124,9 +125,9 @@ fn cfg(line: &[u8], out: &mut [u8], step: Step, link: Link, number: u64, scan: S
     turned(next, changed)
 }
 
-fn profile(line: &[u8], out: &mut [u8], step: Step, link: Link, number: u64, scan: Scan) -> Turn {
+fn profile(rt: &(impl Print + Eprint), line: &[u8], out: &mut [u8], step: Step, link: Link, number: u64, scan: Scan) -> Turn {
     let mut v = [0u64; places::PROFILE];
-    let next = reading::profile(line, out, step, number, scan, &mut v);
+    let next = reading::profile(rt, line, out, step, number, scan, &mut v);
     let read = text_records::profile_of(&v);
     let mut changed = link;
     if !next.stop {
@@ -135,9 +136,9 @@ fn profile(line: &[u8], out: &mut [u8], step: Step, link: Link, number: u64, sca
     turned(next, changed)
 }
 
-fn state(line: &[u8], out: &mut [u8], step: Step, link: Link, number: u64, scan: Scan) -> Turn {
+fn state(rt: &(impl Print + Eprint), line: &[u8], out: &mut [u8], step: Step, link: Link, number: u64, scan: Scan) -> Turn {
     let mut v = [0u64; ROW];
-    let next = reading::state(line, out, step, number, scan, &mut v);
+    let next = reading::state(rt, line, out, step, number, scan, &mut v);
     let read = text_records::state_of(&v);
     let mut changed = link;
     if !next.stop {
@@ -146,17 +147,17 @@ fn state(line: &[u8], out: &mut [u8], step: Step, link: Link, number: u64, scan:
     turned(next, changed)
 }
 
-fn call(line: &[u8], out: &mut [u8], step: Step, link: Link, number: u64) -> Turn {
+fn call(rt: &(impl Print + Eprint), line: &[u8], out: &mut [u8], step: Step, link: Link, number: u64) -> Turn {
     let word = text_words::call(line);
     let scan = word.scan;
     let index = word.index;
     if index == text_words::CALLS as usize {
-        return turned(reading::first_word(line, out, step, number), link);
+        return turned(reading::first_word(rt, line, out, step, number), link);
     }
     if index == text_words::FRAME as usize {
-        return frame(line, out, step, link, number, scan);
+        return frame(rt, line, out, step, link, number, scan);
     }
-    other(line, out, step, link, number, call_of(index), scan)
+    other(rt, line, out, step, link, number, call_of(index), scan)
 }
 
 fn call_of(index: usize) -> u8 {
@@ -165,6 +166,7 @@ fn call_of(index: usize) -> u8 {
 
 // Every call but `frame`.
 fn other(
+    rt: &(impl Print + Eprint),
     line: &[u8],
     out: &mut [u8],
     step: Step,
@@ -174,11 +176,11 @@ fn other(
     scan: Scan,
 ) -> Turn {
     let mut a = [0u64; ARGS];
-    let next = reading::call(line, out, step, number, call, scan, &mut a);
+    let next = reading::call(rt, line, out, step, number, call, scan, &mut a);
     if next.stop {
         return turned(next, link);
     }
-    let told = replay_answers::answer(out, next.o, link, next.block.run, call, &a);
+    let told = replay_answers::answer(rt, out, next.o, link, next.block.run, call, &a);
     settle(next, link, call, told)
 }
 
@@ -194,26 +196,26 @@ fn settle(step: Step, link: Link, call: u8, told: Told) -> Turn {
 }
 
 // `frame`, whose buffers have at most 65,536 bytes each.
-fn frame(line: &[u8], out: &mut [u8], step: Step, link: Link, number: u64, scan: Scan) -> Turn {
+fn frame(rt: &(impl Print + Eprint), line: &[u8], out: &mut [u8], step: Step, link: Link, number: u64, scan: Scan) -> Turn {
     let mut a = [0u64; ARGS];
     let mut target = [0u8; 65536];
     let mut source = [0u8; 65536];
     let read = text_form::read_first(line, scan, text_words::FRAME, &mut a);
     let to = text_hex::read(line, read.scan, &mut target);
     let from = text_hex::read(line, to.scan, &mut source);
-    let next = framed(line, out, step, number, read, from.scan.end(line));
+    let next = framed(rt, line, out, step, number, read, from.scan.end(line));
     if next.stop {
         return turned(next, link);
     }
-    answer_from(out, next, link, &a, &source, from.len, &mut target, to.len)
+    answer_from(rt, out, next, link, &a, &source, from.len, &mut target, to.len)
 }
 
 // The line of a frame, with the scan past its buffers.
-fn framed(line: &[u8], out: &mut [u8], step: Step, number: u64, read: Reading, past: Scan) -> Step {
+fn framed(rt: &(impl Print + Eprint), line: &[u8], out: &mut [u8], step: Step, number: u64, read: Reading, past: Scan) -> Step {
     if past.fault != text::NONE {
-        return reading::stopped(line, out, step, number, with_scan(read, past));
+        return reading::stopped(rt, line, out, step, number, with_scan(read, past));
     }
-    reading::called(line, out, step, number, text_words::FRAME)
+    reading::called(rt, line, out, step, number, text_words::FRAME)
 }
 
 // What was read up to the buffers, with the scan past them.
@@ -228,6 +230,7 @@ fn with_scan(read: Reading, scan: Scan) -> Reading {
 
 // A frame whose source is the first `n` bytes of a buffer.
 fn answer_from(
+    rt: &impl Print,
     out: &mut [u8],
     step: Step,
     link: Link,
@@ -240,11 +243,12 @@ fn answer_from(
     if source.len() < n {
         return turned(reading::halted(step), link);
     }
-    answer_to(out, step, link, a, &source[..n], target, len)
+    answer_to(rt, out, step, link, a, &source[..n], target, len)
 }
 
 // A frame whose target is the first `n` bytes of a buffer.
 fn answer_to(
+    rt: &impl Print,
     out: &mut [u8],
     step: Step,
     link: Link,
@@ -257,6 +261,7 @@ fn answer_to(
         return turned(reading::halted(step), link);
     }
     let told = replay_answers::hand(
+        rt,
         out,
         step.o,
         link,
@@ -270,39 +275,39 @@ fn answer_to(
 }
 
 // The end of a block: a run's end state.
-fn close(out: &mut [u8], step: Step, state: State, kept: &[u8]) -> Output {
+fn close(rt: &impl Print, out: &mut [u8], step: Step, state: State, kept: &[u8]) -> Output {
     let o = step.o;
     let n = step.block.claim;
     if !blocks::ends_with_state(step.block) {
         return o;
     }
     if n == 0 {
-        return replay_answers::write_state(out, o, state);
+        return replay_answers::write_state(rt, out, o, state);
     }
-    write_claim(out, o, kept, n)
+    write_claim(rt, out, o, kept, n)
 }
 
 // The line of a state that claims more than the row keeps.
-fn write_claim(out: &mut [u8], o: Output, kept: &[u8], n: usize) -> Output {
+fn write_claim(rt: &impl Print, out: &mut [u8], o: Output, kept: &[u8], n: usize) -> Output {
     if kept.len() < n {
         return o;
     }
-    write_marked(&kept[..n], out, o)
+    write_marked(rt, &kept[..n], out, o)
 }
 
-fn write_marked(line: &[u8], out: &mut [u8], o: Output) -> Output {
-    let marked = o.bytes(STDOUT_FILENO, out, b"= ");
-    reading::copied(line, out, marked)
+fn write_marked(rt: &impl Print, line: &[u8], out: &mut [u8], o: Output) -> Output {
+    let marked = o.bytes(rt, out, b"= ");
+    reading::copied(rt, line, out, marked)
 }
 
 // The end of the input, or what keeps the next line from being read.
-pub fn end(out: &mut [u8], turn: Turn, kept: &[u8], number: u64, input: Input) {
+pub fn end(rt: &(impl Print + Eprint), out: &mut [u8], turn: Turn, kept: &[u8], number: u64, input: Input) {
     let step = turn.step;
     let link = turn.link;
-    if text_lines::tell_no_line(number, input) {
-        let o = close(out, step, link.state, kept);
-        reading::finish(out, o, number);
+    if text_lines::tell_no_line(rt, number, input) {
+        let o = close(rt, out, step, link.state, kept);
+        reading::finish(rt, out, o, number);
     } else {
-        reading::finish(out, step.o, number);
+        reading::finish(rt, out, step.o, number);
     }
 }

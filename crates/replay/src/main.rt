@@ -7,46 +7,45 @@ mod lines;
 mod reading;
 
 use blocks::Turn;
-use libc::{STDIN_FILENO, STDOUT_FILENO};
+use std::io::Read;
+use std::rt::Runtime;
 use text_lines::Input;
 
-fn main() {
+fn main(rt: HostRuntime) {
     let mut buf = [0u8; 524288];
     let mut out = io::large_buffer();
     let mut kept = [0u8; 524288];
-    let n = text_source::count();
+    let n = text_source::count(&rt);
     if n == 0 {
-        filter(STDIN_FILENO, &mut buf, &mut out, &mut kept);
+        filter(&rt, &mut rt.stdin(), &mut buf, &mut out, &mut kept);
     } else {
-        each(n, &mut buf, &mut out, &mut kept);
+        each(&rt, n, &mut buf, &mut out, &mut kept);
     }
 }
 
 // The lists that the arguments name, one after another.
-fn each(n: usize, buf: &mut [u8], out: &mut [u8], kept: &mut [u8]) {
+fn each(rt: &impl Runtime, n: usize, buf: &mut [u8], out: &mut [u8], kept: &mut [u8]) {
     let mut i: usize = 0;
     while i < n {
         i += 1;
-        named(i, buf, out, kept);
+        named(rt, i, buf, out, kept);
     }
 }
 
-fn named(i: usize, buf: &mut [u8], out: &mut [u8], kept: &mut [u8]) {
-    if text_source::is_help(i) {
-        io::write_all(
-            STDOUT_FILENO,
+fn named(rt: &impl Runtime, i: usize, buf: &mut [u8], out: &mut [u8], kept: &mut [u8]) {
+    if text_source::is_help(rt, i) {
+        let _ = rt.write_all(
             b"replay [FILE ..]: answers lists in the replay format (docs/REPLAY.md), from standard input where no file is named.\n",
         );
         return;
     }
-    let fd = text_source::open(i);
-    if 0 <= fd {
-        filter(fd, buf, out, kept);
-        text_source::close(fd);
+    if let Some(mut source) = text_source::open(rt, i) {
+        filter(rt, &mut source, buf, out, kept);
+        text_source::close(source);
     }
 }
 
-fn filter(fd: i32, buf: &mut [u8], out: &mut [u8], kept: &mut [u8]) {
+fn filter(rt: &(impl Print + Eprint), from: &mut impl Read, buf: &mut [u8], out: &mut [u8], kept: &mut [u8]) {
     let mut input = Input::new();
     let mut turn = Turn {
         step: blocks::none(),
@@ -55,16 +54,16 @@ fn filter(fd: i32, buf: &mut [u8], out: &mut [u8], kept: &mut [u8]) {
     let mut number: u64 = 0;
     while number < time::END {
         number += 1;
-        turn.step = reading::ready(turn.step, out, input.waits(buf));
-        let line = input.line(fd, buf);
+        turn.step = reading::ready(rt, turn.step, out, input.waits(buf));
+        let line = input.line(from, buf);
         input = line.input;
         if !line.some {
-            lines::end(out, turn, kept, number, input);
+            lines::end(rt, out, turn, kept, number, input);
             return;
         }
         let start = line.start;
         let end = line.end;
-        turn = lines::respond(&buf[start..end], out, turn, kept, number);
+        turn = lines::respond(rt, &buf[start..end], out, turn, kept, number);
         if turn.step.stop {
             return;
         }

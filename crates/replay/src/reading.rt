@@ -2,32 +2,31 @@
 // does not read the step stops.
 use crate::blocks;
 use crate::blocks::Step;
-use libc::STDOUT_FILENO;
 use text::Scan;
 use text_args::ARGS;
 use text_form::{ROW, Reading, places};
 use text_lines::Output;
 
 // Writes out what was answered before the program waits for more lines.
-pub fn ready(step: Step, out: &[u8], waits: bool) -> Step {
+pub fn ready(rt: &impl Print, step: Step, out: &[u8], waits: bool) -> Step {
     if waits {
-        return blocks::written(step, step.o.flush(STDOUT_FILENO, out));
+        return blocks::written(step, step.o.flush(rt, out));
     }
     step
 }
 
-pub fn copied(line: &[u8], out: &mut [u8], o: Output) -> Output {
-    let all = o.bytes(STDOUT_FILENO, out, line);
-    all.bytes(STDOUT_FILENO, out, b"\n")
+pub fn copied(rt: &impl Print, line: &[u8], out: &mut [u8], o: Output) -> Output {
+    let all = o.bytes(rt, out, line);
+    all.bytes(rt, out, b"\n")
 }
 
 // Stops where the output cannot be written.
-pub fn checked(step: Step, number: u64) -> Step {
+pub fn checked(rt: &impl Eprint, step: Step, number: u64) -> Step {
     if step.stop {
         return step;
     }
     if step.o.failed {
-        text_lines::tell(number, b"the answers cannot be written.");
+        text_lines::tell(rt, number, b"the answers cannot be written.");
     }
     let mut next = step;
     next.stop = step.o.failed;
@@ -35,21 +34,21 @@ pub fn checked(step: Step, number: u64) -> Step {
 }
 
 // Writes out what was answered, and tells what is wrong with the field at which a scan stopped.
-pub fn stopped(line: &[u8], out: &[u8], step: Step, number: u64, read: Reading) -> Step {
-    finish(out, step.o, number);
+pub fn stopped(rt: &(impl Print + Eprint), line: &[u8], out: &[u8], step: Step, number: u64, read: Reading) -> Step {
+    finish(rt, out, step.o, number);
     let scan = read.scan;
     if scan.fault == text_hex::NOT_HEX {
-        text_lines::tell_about(number, line, scan, b"is not a buffer in hex.");
+        text_lines::tell_about(rt, number, line, scan, b"is not a buffer in hex.");
     } else {
-        text_lines::tell_most(number, line, scan, read.most);
+        text_lines::tell_most(rt, number, line, scan, read.most);
     }
     halted(step)
 }
 
 // Writes out what was answered, and tells why no more is.
-fn stopped_by(out: &[u8], step: Step, number: u64, words: &[u8]) -> Step {
-    finish(out, step.o, number);
-    text_lines::tell(number, words);
+fn stopped_by(rt: &(impl Print + Eprint), out: &[u8], step: Step, number: u64, words: &[u8]) -> Step {
+    finish(rt, out, step.o, number);
+    text_lines::tell(rt, number, words);
     halted(step)
 }
 
@@ -59,15 +58,15 @@ pub fn halted(step: Step) -> Step {
     next
 }
 
-pub fn finish(out: &[u8], o: Output, number: u64) {
-    if o.flush(STDOUT_FILENO, out).failed {
-        text_lines::tell(number, b"the answers cannot be written.");
+pub fn finish(rt: &(impl Print + Eprint), out: &[u8], o: Output, number: u64) {
+    if o.flush(rt, out).failed {
+        text_lines::tell(rt, number, b"the answers cannot be written.");
     }
 }
 
 // `vector N` and `run N`. `closed` is the output with the end of the block before.
-pub fn begin(line: &[u8], out: &mut [u8], step: Step, closed: Output, run: bool) -> Step {
-    let o = copied(line, out, closed);
+pub fn begin(rt: &impl Print, line: &[u8], out: &mut [u8], step: Step, closed: Output, run: bool) -> Step {
+    let o = copied(rt, line, out, closed);
     let block = blocks::blank(run);
     let mut next = step;
     next.o = o;
@@ -76,6 +75,7 @@ pub fn begin(line: &[u8], out: &mut [u8], step: Step, closed: Output, run: bool)
 }
 
 pub fn cfg(
+    rt: &(impl Print + Eprint),
     line: &[u8],
     out: &mut [u8],
     step: Step,
@@ -85,14 +85,15 @@ pub fn cfg(
 ) -> Step {
     let read = text_form::read_fields(line, scan, text_words::SETTINGS, v);
     if read.scan.fault != text::NONE {
-        return stopped(line, out, step, number, read);
+        return stopped(rt, line, out, step, number, read);
     }
     let mut block = step.block;
     block.cfg = true;
-    kept(line, out, step, block)
+    kept(rt, line, out, step, block)
 }
 
 pub fn profile(
+    rt: &(impl Print + Eprint),
     line: &[u8],
     out: &mut [u8],
     step: Step,
@@ -102,14 +103,15 @@ pub fn profile(
 ) -> Step {
     let read = text_form::read_fields(line, scan, text_words::PROFILE, v);
     if read.scan.fault != text::NONE {
-        return stopped(line, out, step, number, read);
+        return stopped(rt, line, out, step, number, read);
     }
     let mut block = step.block;
     block.profile = true;
-    kept(line, out, step, block)
+    kept(rt, line, out, step, block)
 }
 
 pub fn state(
+    rt: &(impl Print + Eprint),
     line: &[u8],
     out: &mut [u8],
     step: Step,
@@ -119,17 +121,17 @@ pub fn state(
 ) -> Step {
     let read = text_form::read_state(line, scan, v);
     if read.scan.fault != text::NONE {
-        return stopped(line, out, step, number, read);
+        return stopped(rt, line, out, step, number, read);
     }
     let mut block = step.block;
     block.state = true;
     block.claim = read.cut as usize;
-    kept(line, out, step, block)
+    kept(rt, line, out, step, block)
 }
 
 // The step with a line that is written, and the block with what it gave.
-fn kept(line: &[u8], out: &mut [u8], step: Step, block: blocks::Block) -> Step {
-    let o = copied(line, out, step.o);
+fn kept(rt: &impl Print, line: &[u8], out: &mut [u8], step: Step, block: blocks::Block) -> Step {
+    let o = copied(rt, line, out, step.o);
     let mut next = step;
     next.o = o;
     next.block = block;
@@ -138,6 +140,7 @@ fn kept(line: &[u8], out: &mut [u8], step: Step, block: blocks::Block) -> Step {
 
 // Every call but `frame`, up to its answer.
 pub fn call(
+    rt: &(impl Print + Eprint),
     line: &[u8],
     out: &mut [u8],
     step: Step,
@@ -148,22 +151,23 @@ pub fn call(
 ) -> Step {
     let read = text_form::read_fields(line, scan, call, a);
     if read.scan.fault != text::NONE {
-        return stopped(line, out, step, number, read);
+        return stopped(rt, line, out, step, number, read);
     }
-    called(line, out, step, number, call)
+    called(rt, line, out, step, number, call)
 }
 
 // Writes the line of a call, unless a line that it needs does not stand before it.
-pub fn called(line: &[u8], out: &mut [u8], step: Step, number: u64, call: u8) -> Step {
+pub fn called(rt: &(impl Print + Eprint), line: &[u8], out: &mut [u8], step: Step, number: u64, call: u8) -> Step {
     if !blocks::ready(step.block, call) {
-        return early(out, step, number);
+        return early(rt, out, step, number);
     }
-    blocks::written(step, copied(line, out, step.o))
+    blocks::written(step, copied(rt, line, out, step.o))
 }
 
-fn early(out: &[u8], step: Step, number: u64) -> Step {
+fn early(rt: &(impl Print + Eprint), out: &[u8], step: Step, number: u64) -> Step {
     if blocks::given(step.block) {
         return stopped_by(
+            rt,
             out,
             step,
             number,
@@ -171,6 +175,7 @@ fn early(out: &[u8], step: Step, number: u64) -> Step {
         );
     }
     stopped_by(
+        rt,
         out,
         step,
         number,
@@ -179,16 +184,16 @@ fn early(out: &[u8], step: Step, number: u64) -> Step {
 }
 
 // The first word is none that a list can have.
-pub fn first_word(line: &[u8], out: &[u8], step: Step, number: u64) -> Step {
+pub fn first_word(rt: &(impl Print + Eprint), line: &[u8], out: &[u8], step: Step, number: u64) -> Step {
     let mut words = [0u8; 256];
     let own = text_lines::put(&mut words, 0, b"vector run cfg profile state");
     let n = text_words::put_calls(&mut words, own);
-    finish(out, step.o, number);
-    tell_words(number, line, &words, n);
+    finish(rt, out, step.o, number);
+    tell_words(rt, number, line, &words, n);
     halted(step)
 }
 
-fn tell_words(number: u64, line: &[u8], words: &[u8], n: usize) {
+fn tell_words(rt: &impl Eprint, number: u64, line: &[u8], words: &[u8], n: usize) {
     let scan = Scan {
         at: 0,
         fault: text::NOT_WORD,
@@ -196,5 +201,5 @@ fn tell_words(number: u64, line: &[u8], words: &[u8], n: usize) {
     if words.len() < n {
         return;
     }
-    text_lines::tell_choice(number, line, scan, b"a line", &words[..n]);
+    text_lines::tell_choice(rt, number, line, scan, b"a line", &words[..n]);
 }

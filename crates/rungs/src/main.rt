@@ -2,8 +2,9 @@
 // writes the rungs of that schedule and how many were dropped. Anything else is told on standard
 // error, and then nothing is written.
 #![tactic(auto)]
+
 use ladder::{MAX_RUNGS, Made, Schedule};
-use libc::{STDERR_FILENO, STDIN_FILENO, STDOUT_FILENO};
+use std::io::Read;
 use text::Scan;
 use text_lines::{Input, Line, Output};
 use time::When;
@@ -13,7 +14,7 @@ const MOST: u64 = 18446744073709551615;
 const MOST_COUNT: u64 = 255;
 
 // What the line asks for: `probes`, or else `doubling`; and the scan past it.
-#[derive(Drop)]
+#[derive(Clone, Copy)]
 struct Asked {
     scan: Scan,
     probes: bool,
@@ -23,48 +24,48 @@ struct Asked {
     gap: u64,
 }
 
-#[derive(Drop)]
+#[derive(Clone, Copy)]
 struct Next {
     number: u64,
     line: Line,
 }
 
-fn main() {
+fn main(rt: HostRuntime) {
     let mut buf = io::large_buffer();
     let mut out = io::buffer();
-    run(&mut buf, &mut out);
+    run(&rt, &mut rt.stdin(), &mut buf, &mut out);
 }
 
-fn run(buf: &mut [u8], out: &mut [u8]) {
-    let first = Input::new().line(STDIN_FILENO, buf);
+fn run(rt: &(impl Print + Eprint), from: &mut impl Read, buf: &mut [u8], out: &mut [u8]) {
+    let first = Input::new().line(from, buf);
     let rest = first.input;
     if !first.some {
-        if text_lines::tell_no_line(1, rest) {
-            text_lines::tell(1, b"there is no line.");
+        if text_lines::tell_no_line(rt, 1, rest) {
+            text_lines::tell(rt, 1, b"there is no line.");
         }
         return;
     }
     let start = first.start;
     let end = first.end;
-    let asked = read(&buf[start..end]);
+    let asked = read(rt, &buf[start..end]);
     if asked.scan.fault == text::NONE {
-        if ends(rest, buf) {
-            write(out, made(asked));
+        if ends(rt, from, rest, buf) {
+            write(rt, out, made(asked));
         }
     }
 }
 
 // Reads the line, without a carriage return at its end.
-fn read(given: &[u8]) -> Asked {
+fn read(rt: &impl Eprint, given: &[u8]) -> Asked {
     let n = text_lines::line_end(given);
-    read_line(&given[..n])
+    read_line(rt, &given[..n])
 }
 
 // Reads the line, and tells what is wrong with it.
-fn read_line(line: &[u8]) -> Asked {
+fn read_line(rt: &impl Eprint, line: &[u8]) -> Asked {
     let word = Scan::new().word(line, b"probes doubling");
     let asked = read_numbers(line, word.scan, word.index == 0);
-    tell_fault(line, asked.scan);
+    tell_fault(rt, line, asked.scan);
     asked
 }
 
@@ -130,22 +131,22 @@ fn byte(n: u64) -> u8 {
 }
 
 // Whether nothing but empty lines follows the first line; else it is told.
-fn ends(input: Input, buf: &mut [u8]) -> bool {
-    let next = skip_empty(input, buf);
+fn ends(rt: &impl Eprint, from: &mut impl Read, input: Input, buf: &mut [u8]) -> bool {
+    let next = skip_empty(from, input, buf);
     if next.line.some {
-        text_lines::tell(next.number, b"only one line is read.");
+        text_lines::tell(rt, next.number, b"only one line is read.");
         return false;
     }
-    text_lines::tell_no_line(next.number, next.line.input)
+    text_lines::tell_no_line(rt, next.number, next.line.input)
 }
 
 // The first line after the first that is not empty, with its number.
-fn skip_empty(input: Input, buf: &mut [u8]) -> Next {
+fn skip_empty(from: &mut impl Read, input: Input, buf: &mut [u8]) -> Next {
     let mut rest = input;
     let mut number: u64 = 1;
     while number < MOST {
         number += 1;
-        let line = rest.line(STDIN_FILENO, buf);
+        let line = rest.line(from, buf);
         if stops(line) {
             return Next {
                 number: number,
@@ -173,75 +174,70 @@ fn stops(line: Line) -> bool {
     }
 }
 
-fn tell_fault(line: &[u8], scan: Scan) {
+fn tell_fault(rt: &impl Eprint, line: &[u8], scan: Scan) {
     let n = text::ordinal(line, scan.at);
     let fault = scan.fault;
     match fault {
         text::NONE => (),
-        text::NOT_WORD => text_lines::tell(1, b"the first word must be probes or doubling."),
-        text::EXTRA => text_lines::tell(1, b"there is a field too many."),
-        text::MISSING => tell_named(n, b" is missing."),
-        _ => tell_range(n),
+        text::NOT_WORD => text_lines::tell(rt, 1, b"the first word must be probes or doubling."),
+        text::EXTRA => text_lines::tell(rt, 1, b"there is a field too many."),
+        text::MISSING => tell_named(rt, n, " is missing."),
+        _ => tell_range(rt, n),
     }
 }
 
-fn tell_range(n: usize) {
+fn tell_range(rt: &impl Eprint, n: usize) {
     if n == 3 {
-        tell_named(n, b" must be a number from 0 to 255.");
+        tell_named(rt, n, " must be a number from 0 to 255.");
         return;
     }
-    tell_named(n, b" must be a number from 0 to 18446744073709551615.");
+    tell_named(rt, n, " must be a number from 0 to 18446744073709551615.");
 }
 
 // A sentence about the field of number `n`.
-fn tell_named(n: usize, words: &[u8]) {
-    io::write_all(STDERR_FILENO, b"line 1: ");
-    if n == 2 {
-        io::write_all(STDERR_FILENO, b"FIRST");
-    } else if n == 3 {
-        io::write_all(STDERR_FILENO, b"COUNT");
-    } else if n == 4 {
-        io::write_all(STDERR_FILENO, b"END");
-    } else {
-        io::write_all(STDERR_FILENO, b"GAP");
-    }
-    io::write_all(STDERR_FILENO, words);
-    io::write_all(STDERR_FILENO, b"\n");
+fn tell_named(rt: &impl Eprint, n: usize, words: &str) {
+    let name = match n {
+        2 => "FIRST",
+        3 => "COUNT",
+        4 => "END",
+        _ => "GAP",
+    };
+    let _ = eprintln!(rt; "line 1: {name}{words}");
 }
 
-fn write(out: &mut [u8], made: Made) {
-    let headed = Output::new().bytes(STDOUT_FILENO, out, b"rung kind offset\n");
+fn write(rt: &(impl Print + Eprint), out: &mut [u8], made: Made) {
+    let headed = Output::new().bytes(rt, out, b"rung kind offset\n");
     let sched = made.sched;
-    let listed = rungs(out, headed, sched);
-    let all = dropped(out, listed, made.dropped);
-    if all.flush(STDOUT_FILENO, out).failed {
-        text_lines::tell(1, b"standard output cannot be written.");
+    let listed = rungs(rt, out, headed, sched);
+    let all = dropped(rt, out, listed, made.dropped);
+    if all.flush(rt, out).failed {
+        text_lines::tell(rt, 1, b"standard output cannot be written.");
     }
 }
 
-fn dropped(out: &mut [u8], o: Output, n: u8) -> Output {
-    let named = o.bytes(STDOUT_FILENO, out, b"dropped ");
-    let counted = named.number(STDOUT_FILENO, out, n as u64);
-    counted.bytes(STDOUT_FILENO, out, b"\n")
+fn dropped(rt: &impl Print, out: &mut [u8], o: Output, n: u8) -> Output {
+    let named = o.bytes(rt, out, b"dropped ");
+    let counted = named.number(rt, out, n as u64);
+    counted.bytes(rt, out, b"\n")
 }
 
-fn rungs(out: &mut [u8], o: Output, sched: Schedule) -> Output {
+fn rungs(rt: &impl Print, out: &mut [u8], o: Output, sched: Schedule) -> Output {
     let n = sched.len as usize;
     let mut written = o;
     let mut i: usize = 0;
     while i < n {
-        written = rung(out, written, sched, i);
+        written = rung(rt, out, written, sched, i);
         i += 1;
     }
     written
 }
 
 // The line of rung `i`: its place, its kind and its offset.
-fn rung(out: &mut [u8], o: Output, sched: Schedule, i: usize) -> Output {
-    let placed = o.number(STDOUT_FILENO, out, i as u64);
-    let named = kind(out, placed, sched.keepalive, i);
-    let timed = named.number(STDOUT_FILENO, out, offset(sched, i));
-    timed.bytes(STDOUT_FILENO, out, b"\n")
+fn rung(rt: &impl Print, out: &mut [u8], o: Output, sched: Schedule, i: usize) -> Output {
+    let placed = o.number(rt, out, i as u64);
+    let named = kind(rt, out, placed, sched.keepalive, i);
+    let timed = named.number(rt, out, offset(sched, i));
+    timed.bytes(rt, out, b"\n")
 }
 
 fn offset(sched: Schedule, i: usize) -> u64 {
@@ -249,11 +245,11 @@ fn offset(sched: Schedule, i: usize) -> u64 {
 }
 
 // Bit `i` of `map` is set where rung `i` is a keepalive.
-fn kind(out: &mut [u8], o: Output, map: u64, i: usize) -> Output {
+fn kind(rt: &impl Print, out: &mut [u8], o: Output, map: u64, i: usize) -> Output {
     if i < 64 {
         if (map >> (i as u64)) % 2 == 1 {
-            return o.bytes(STDOUT_FILENO, out, b" keepalive ");
+            return o.bytes(rt, out, b" keepalive ");
         }
     }
-    o.bytes(STDOUT_FILENO, out, b" send ")
+    o.bytes(rt, out, b" send ")
 }

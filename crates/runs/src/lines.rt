@@ -28,13 +28,13 @@ const PENDI: usize = 8;
 
 const PENDR: usize = 9;
 
-pub fn respond(given: &[u8], out: &mut [u8], step: Step, number: u64) -> Step {
+pub fn respond(rt: &(impl Print + Eprint), given: &[u8], out: &mut [u8], step: Step, number: u64) -> Step {
     let n = text_lines::line_end(given);
-    text_lines::progress(number);
-    steps::checked(read_line(&given[..n], out, step, number), number)
+    text_lines::progress(rt, number);
+    steps::checked(rt, read_line(rt, &given[..n], out, step, number), number)
 }
 
-fn read_line(line: &[u8], out: &mut [u8], step: Step, number: u64) -> Step {
+fn read_line(rt: &(impl Print + Eprint), line: &[u8], out: &mut [u8], step: Step, number: u64) -> Step {
     if passed(line) {
         return step;
     }
@@ -44,9 +44,9 @@ fn read_line(line: &[u8], out: &mut [u8], step: Step, number: u64) -> Step {
     );
     let scan = word.scan;
     if scan.fault == text::NONE {
-        return take(line, out, step, number, word.index, scan);
+        return take(rt, line, out, step, number, word.index, scan);
     }
-    read_call(line, out, step, number)
+    read_call(rt, line, out, step, number)
 }
 
 // Empty lines, and those that begin with `#`, are passed over.
@@ -58,18 +58,19 @@ fn passed(line: &[u8]) -> bool {
 }
 
 // A line that is no call.
-fn take(line: &[u8], out: &mut [u8], step: Step, number: u64, index: usize, scan: Scan) -> Step {
+fn take(rt: &(impl Print + Eprint), line: &[u8], out: &mut [u8], step: Step, number: u64, index: usize, scan: Scan) -> Step {
     match index {
-        SET => set(line, out, step, number, scan),
-        PROFILE => profile(line, out, step, number, scan),
-        EXPLAIN => explain(line, out, step, number, scan),
-        STATE => read_state(line, out, step, number, scan),
-        _ => take_record(line, out, step, number, index, scan),
+        SET => set(rt, line, out, step, number, scan),
+        PROFILE => profile(rt, line, out, step, number, scan),
+        EXPLAIN => explain(rt, line, out, step, number, scan),
+        STATE => read_state(rt, line, out, step, number, scan),
+        _ => take_record(rt, line, out, step, number, index, scan),
     }
 }
 
 // A line about the state that is there.
 fn take_record(
+    rt: &(impl Print + Eprint),
     line: &[u8],
     out: &mut [u8],
     step: Step,
@@ -78,13 +79,13 @@ fn take_record(
     scan: Scan,
 ) -> Step {
     if !step.there {
-        return faults::no_link(out, step, number);
+        return faults::no_link(rt, out, step, number);
     }
     match index {
-        SHOW => show(line, out, step, number, scan),
-        MEMORY => change(line, out, step, number, text_words::MEMORY, scan),
-        CURRENT => change_current(line, out, step, number, scan),
-        _ => put_record(line, out, step, number, record_of(index), scan),
+        SHOW => show(rt, line, out, step, number, scan),
+        MEMORY => change(rt, line, out, step, number, text_words::MEMORY, scan),
+        CURRENT => change_current(rt, line, out, step, number, scan),
+        _ => put_record(rt, line, out, step, number, record_of(index), scan),
     }
 }
 
@@ -97,13 +98,13 @@ fn record_of(index: usize) -> u8 {
     }
 }
 
-fn set(line: &[u8], out: &[u8], step: Step, number: u64, scan: Scan) -> Step {
+fn set(rt: &(impl Print + Eprint), line: &[u8], out: &[u8], step: Step, number: u64, scan: Scan) -> Step {
     let mut v = [0u64; text_form::places::SETTINGS];
     let mut link = step.link;
     text_records::keep_config(&mut v, link.cfg);
     let read = read_some(line, scan, text_words::SETTINGS, 0, &mut v);
     if read.scan.fault != text::NONE {
-        return faults::field(line, out, step, number, text_words::SETTINGS, read);
+        return faults::field(rt, line, out, step, number, text_words::SETTINGS, read);
     }
     let cfg = text_records::config_of(&v);
     link.cfg = cfg;
@@ -112,13 +113,13 @@ fn set(line: &[u8], out: &[u8], step: Step, number: u64, scan: Scan) -> Step {
     next
 }
 
-fn profile(line: &[u8], out: &[u8], step: Step, number: u64, scan: Scan) -> Step {
+fn profile(rt: &(impl Print + Eprint), line: &[u8], out: &[u8], step: Step, number: u64, scan: Scan) -> Step {
     let mut v = [0u64; text_form::places::PROFILE];
     let mut link = step.link;
     text_records::keep_profile(&mut v, link.profile);
     let read = read_profile(line, scan, &mut v);
     if read.scan.fault != text::NONE {
-        return faults::field(line, out, step, number, text_words::PROFILE, read);
+        return faults::field(rt, line, out, step, number, text_words::PROFILE, read);
     }
     let profile = text_records::profile_of(&v);
     link.profile = profile;
@@ -151,11 +152,11 @@ fn missing(scan: Scan) -> Scan {
     }
 }
 
-fn explain(line: &[u8], out: &[u8], step: Step, number: u64, scan: Scan) -> Step {
+fn explain(rt: &(impl Print + Eprint), line: &[u8], out: &[u8], step: Step, number: u64, scan: Scan) -> Step {
     let mut v = [0u64; 1];
     let read = text_form::read_fields(line, scan, text_words::EXPLAIN, &mut v);
     if read.scan.fault != text::NONE {
-        return faults::value(line, out, step, number, read);
+        return faults::value(rt, line, out, step, number, read);
     }
     let mut next = step;
     next.explain = v[0] == 1;
@@ -163,18 +164,18 @@ fn explain(line: &[u8], out: &[u8], step: Step, number: u64, scan: Scan) -> Step
 }
 
 // A state in the replay format stands for a link.
-fn read_state(line: &[u8], out: &[u8], step: Step, number: u64, scan: Scan) -> Step {
+fn read_state(rt: &(impl Print + Eprint), line: &[u8], out: &[u8], step: Step, number: u64, scan: Scan) -> Step {
     let mut v = [0u64; ROW];
     let read = text_form::read_state(line, scan, &mut v);
     if read.scan.fault != text::NONE {
-        return faults::value(line, out, step, number, read);
+        return faults::value(rt, line, out, step, number, read);
     }
     let state = text_records::state_of(&v);
     steps::given(step, state)
 }
 
 // The state as a line that this program and `replay` read.
-fn show(line: &[u8], out: &mut [u8], step: Step, number: u64, scan: Scan) -> Step {
+fn show(rt: &(impl Print + Eprint), line: &[u8], out: &mut [u8], step: Step, number: u64, scan: Scan) -> Step {
     let past = scan.end(line);
     if past.fault != text::NONE {
         let read = Reading {
@@ -182,11 +183,11 @@ fn show(line: &[u8], out: &mut [u8], step: Step, number: u64, scan: Scan) -> Ste
             most: 0,
             cut: false,
         };
-        return faults::value(line, out, step, number, read);
+        return faults::value(rt, line, out, step, number, read);
     }
     let link = step.link;
     let state = link.state;
-    steps::written(step, runs_telling::write_state(out, step.o, state))
+    steps::written(step, runs_telling::write_state(rt, out, step.o, state))
 }
 
 // Where a record starts in the row of a state.
@@ -212,24 +213,24 @@ fn candidate_at(held: usize) -> usize {
 }
 
 // A current epoch that there is not has no fields to change.
-fn change_current(line: &[u8], out: &[u8], step: Step, number: u64, scan: Scan) -> Step {
+fn change_current(rt: &(impl Print + Eprint), line: &[u8], out: &[u8], step: Step, number: u64, scan: Scan) -> Step {
     let link = step.link;
     let state = link.state;
     let cur = state.cur;
     if cur.some {
-        return change(line, out, step, number, text_words::EPOCH, scan);
+        return change(rt, line, out, step, number, text_words::EPOCH, scan);
     }
-    faults::stopped(out, step, number, b"there is no current epoch.")
+    faults::stopped(rt, out, step, number, b"there is no current epoch.")
 }
 
 // `memory NAME N ..` and `current NAME N ..`: the named fields are changed.
-fn change(line: &[u8], out: &[u8], step: Step, number: u64, part: u8, scan: Scan) -> Step {
+fn change(rt: &(impl Print + Eprint), line: &[u8], out: &[u8], step: Step, number: u64, part: u8, scan: Scan) -> Step {
     let mut v = [0u64; ROW];
     let link = step.link;
     text_records::keep(&mut v, link.state);
     let read = read_state_part(line, scan, part, &mut v);
     if read.scan.fault != text::NONE {
-        return faults::field(line, out, step, number, part, read);
+        return faults::field(rt, line, out, step, number, part, read);
     }
     let state = text_records::state_of(&v);
     steps::changed(step, state)
@@ -241,7 +242,7 @@ fn read_state_part(line: &[u8], scan: Scan, part: u8, v: &mut [u64; ROW]) -> Rea
 
 // `drained T ..` and the like: a record as it is made at T, with the named fields changed. What a
 // record is made like may depend on a field that is named, so the line is read twice.
-fn put_record(line: &[u8], out: &[u8], step: Step, number: u64, part: u8, scan: Scan) -> Step {
+fn put_record(rt: &(impl Print + Eprint), line: &[u8], out: &[u8], step: Step, number: u64, part: u8, scan: Scan) -> Step {
     let time = scan.number(line, time::END);
     let past = time.scan;
     if past.fault != text::NONE {
@@ -250,17 +251,18 @@ fn put_record(line: &[u8], out: &[u8], step: Step, number: u64, part: u8, scan: 
             most: time::END,
             cut: false,
         };
-        return faults::field(line, out, step, number, part, read);
+        return faults::field(rt, line, out, step, number, part, read);
     }
     if full(step, part) {
         return faults::stopped(
+            rt,
             out,
             step,
             number,
             b"32 candidates are held, and no more fit.",
         );
     }
-    put_at(line, out, step, number, part, past, time.value)
+    put_at(rt, line, out, step, number, part, past, time.value)
 }
 
 // Whether the line is a candidate for which there is no place.
@@ -276,6 +278,7 @@ fn full(step: Step, part: u8) -> bool {
 }
 
 fn put_at(
+    rt: &(impl Print + Eprint),
     line: &[u8],
     out: &[u8],
     step: Step,
@@ -288,7 +291,7 @@ fn put_at(
     let first = made(step, part, now, numbers::wait::EVIDENCE, true);
     let read = read_record(line, scan, part, first, &mut v);
     if read.scan.fault != text::NONE {
-        return faults::field(line, out, step, number, part, read);
+        return faults::field(rt, line, out, step, number, part, read);
     }
     let again = made(step, part, now, wait_of(part, &v), evidenced(&v));
     put_again(line, step, part, scan, again)
@@ -331,13 +334,13 @@ fn made(step: Step, part: u8, now: u64, wait: u8, evidenced: bool) -> State {
     }
 }
 
-fn read_call(line: &[u8], out: &mut [u8], step: Step, number: u64) -> Step {
+fn read_call(rt: &(impl Print + Eprint), line: &[u8], out: &mut [u8], step: Step, number: u64) -> Step {
     let word = text_words::call(line);
     let scan = word.scan;
     if word.index == text_words::CALLS as usize {
-        return faults::first_word(line, out, step, number);
+        return faults::first_word(rt, line, out, step, number);
     }
-    read_named(line, out, step, number, call_of(word.index), scan)
+    read_named(rt, line, out, step, number, call_of(word.index), scan)
 }
 
 fn call_of(index: usize) -> u8 {
@@ -346,18 +349,18 @@ fn call_of(index: usize) -> u8 {
 
 // A call: what it does not name has its default, and a `wake` without an instant has that of the call
 // before.
-fn read_named(line: &[u8], out: &mut [u8], step: Step, number: u64, call: u8, scan: Scan) -> Step {
+fn read_named(rt: &(impl Print + Eprint), line: &[u8], out: &mut [u8], step: Step, number: u64, call: u8, scan: Scan) -> Step {
     let mut a = [0u64; ARGS];
     let mut seen = [0u64; NAMES];
     let read = read_arguments(line, scan, call, step, &mut a, &mut seen);
     if read.scan.fault != text::NONE {
-        return faults::field(line, out, step, number, call, read);
+        return faults::field(rt, line, out, step, number, call, read);
     }
     if !ready(step.there, call) {
-        return faults::no_link(out, step, number);
+        return faults::no_link(rt, out, step, number);
     }
     tag_slot(&mut a, call, seen[place::FRAME_TAG], step);
-    answer(out, step, number, call, &a)
+    answer(rt, out, step, number, call, &a)
 }
 
 fn read_arguments(
@@ -418,15 +421,15 @@ fn pending_tag(s: State) -> u64 {
     peers.tag
 }
 
-fn answer(out: &mut [u8], step: Step, number: u64, call: u8, a: &[u64; ARGS]) -> Step {
-    let next = counted(step, number, call, a[place::NOW]);
+fn answer(rt: &(impl Print + Eprint), out: &mut [u8], step: Step, number: u64, call: u8, a: &[u64; ARGS]) -> Step {
+    let next = counted(rt, step, number, call, a[place::NOW]);
     let link = next.link;
-    let told = runs_telling::answer(out, next.o, link, steps::head(next), call, a);
+    let told = runs_telling::answer(rt, out, next.o, link, steps::head(next), call, a);
     steps::told(next, told)
 }
 
 // Counts the call, and tells of an instant that lies before an earlier one. An `open` begins anew.
-fn counted(step: Step, number: u64, call: u8, now: u64) -> Step {
+fn counted(rt: &impl Eprint, step: Step, number: u64, call: u8, now: u64) -> Step {
     let mut next = step;
     next.calls = time::sat_add(step.calls, 1);
     next.time = now;
@@ -435,7 +438,7 @@ fn counted(step: Step, number: u64, call: u8, now: u64) -> Step {
         return next;
     }
     if now < step.latest {
-        text_lines::tell_early(number, now, step.latest);
+        text_lines::tell_early(rt, number, now, step.latest);
     }
     next.latest = time::max(step.latest, now);
     next

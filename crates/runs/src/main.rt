@@ -6,44 +6,43 @@ mod faults;
 mod lines;
 mod steps;
 
-use libc::{STDIN_FILENO, STDOUT_FILENO};
+use std::io::Read;
+use std::rt::Runtime;
 use text_lines::Input;
 
-fn main() {
+fn main(rt: HostRuntime) {
     let mut buf = io::large_buffer();
     let mut out = io::large_buffer();
-    let n = text_source::count();
+    let n = text_source::count(&rt);
     if n == 0 {
-        filter(STDIN_FILENO, &mut buf, &mut out);
+        filter(&rt, &mut rt.stdin(), &mut buf, &mut out);
     } else {
-        each(n, &mut buf, &mut out);
+        each(&rt, n, &mut buf, &mut out);
     }
 }
 
 // The lists that the arguments name, one after another.
-fn each(n: usize, buf: &mut [u8], out: &mut [u8]) {
+fn each(rt: &impl Runtime, n: usize, buf: &mut [u8], out: &mut [u8]) {
     let mut i: usize = 0;
     while i < n {
         i += 1;
-        named(i, buf, out);
+        named(rt, i, buf, out);
     }
 }
 
-fn named(i: usize, buf: &mut [u8], out: &mut [u8]) {
-    if text_source::is_help(i) {
-        help();
+fn named(rt: &impl Runtime, i: usize, buf: &mut [u8], out: &mut [u8]) {
+    if text_source::is_help(rt, i) {
+        help(rt);
         return;
     }
-    let fd = text_source::open(i);
-    if 0 <= fd {
-        filter(fd, buf, out);
-        text_source::close(fd);
+    if let Some(mut source) = text_source::open(rt, i) {
+        filter(rt, &mut source, buf, out);
+        text_source::close(source);
     }
 }
 
-fn help() {
-    io::write_all(
-        STDOUT_FILENO,
+fn help(rt: &impl Print) {
+    let _ = rt.write_all(
         b"runs [FILE ..]: reads a list of calls on a link, from standard input where no file is named,
 and writes what the link tells: call, instant, event, a, b. A line is one of
   open T [responder | initiator] [transport N] [lease N] [workers F] [spread N]
@@ -63,22 +62,22 @@ docs/RUNS.md has every name, docs/EVENTS.md what each event means, docs/SUPPORT.
     );
 }
 
-fn filter(fd: i32, buf: &mut [u8], out: &mut [u8]) {
+fn filter(rt: &(impl Print + Eprint), from: &mut impl Read, buf: &mut [u8], out: &mut [u8]) {
     let mut input = Input::new();
-    let mut step = steps::begin(out);
+    let mut step = steps::begin(rt, out);
     let mut number: u64 = 0;
     while number < time::END {
         number += 1;
-        step = steps::ready(step, out, input.waits(buf));
-        let line = input.line(fd, buf);
+        step = steps::ready(rt, step, out, input.waits(buf));
+        let line = input.line(from, buf);
         input = line.input;
         if !line.some {
-            steps::end(out, step, number, input);
+            steps::end(rt, out, step, number, input);
             return;
         }
         let start = line.start;
         let end = line.end;
-        step = lines::respond(&buf[start..end], out, step, number);
+        step = lines::respond(rt, &buf[start..end], out, step, number);
         if step.stop {
             return;
         }

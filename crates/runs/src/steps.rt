@@ -1,5 +1,4 @@
 // What the program holds from line to line.
-use libc::STDOUT_FILENO;
 use runs_telling::{Head, Told};
 use settings::Config;
 use state::State;
@@ -9,7 +8,7 @@ use text_lines::{Input, Output};
 // The output so far; the link, and whether one is there; how many calls there were, and the instant of
 // the last; the latest instant since the link was opened or given; whether lines are explained; and
 // whether the program is to stop.
-#[derive(Drop)]
+#[derive(Clone, Copy)]
 pub struct Step {
     pub o: Output,
     pub link: Link,
@@ -22,7 +21,7 @@ pub struct Step {
 }
 
 // The settings of a link that names no others, two messages, and all else off or 0.
-pub fn begin(out: &mut [u8]) -> Step {
+pub fn begin(rt: &impl Print, out: &mut [u8]) -> Step {
     let zero = [0u64; text_form::ROW];
     let state = text_records::state_of(&zero);
     let cfg = Config::fmp();
@@ -32,7 +31,7 @@ pub fn begin(out: &mut [u8]) -> Step {
         cfg: cfg,
         profile: profile,
     };
-    let headed = Output::new().bytes(STDOUT_FILENO, out, b"call instant event a b\n");
+    let headed = Output::new().bytes(rt, out, b"call instant event a b\n");
     Step {
         o: headed,
         link: link,
@@ -46,9 +45,9 @@ pub fn begin(out: &mut [u8]) -> Step {
 }
 
 // Writes out what was answered before the program waits for more lines.
-pub fn ready(step: Step, out: &[u8], waits: bool) -> Step {
+pub fn ready(rt: &impl Print, step: Step, out: &[u8], waits: bool) -> Step {
     if waits {
-        return written(step, step.o.flush(STDOUT_FILENO, out));
+        return written(step, step.o.flush(rt, out));
     }
     step
 }
@@ -99,12 +98,12 @@ pub fn told(step: Step, told: Told) -> Step {
 }
 
 // Stops where the output cannot be written.
-pub fn checked(step: Step, number: u64) -> Step {
+pub fn checked(rt: &impl Eprint, step: Step, number: u64) -> Step {
     if step.stop {
         return step;
     }
     if step.o.failed {
-        text_lines::tell(number, b"the answers cannot be written.");
+        text_lines::tell(rt, number, b"the answers cannot be written.");
     }
     let mut next = step;
     next.stop = step.o.failed;
@@ -117,14 +116,14 @@ pub fn halted(step: Step) -> Step {
     next
 }
 
-pub fn finish(out: &[u8], o: Output, number: u64) {
-    if o.flush(STDOUT_FILENO, out).failed {
-        text_lines::tell(number, b"the answers cannot be written.");
+pub fn finish(rt: &(impl Print + Eprint), out: &[u8], o: Output, number: u64) {
+    if o.flush(rt, out).failed {
+        text_lines::tell(rt, number, b"the answers cannot be written.");
     }
 }
 
 // The end of the input, or what keeps the next line from being read.
-pub fn end(out: &[u8], step: Step, number: u64, input: Input) {
-    finish(out, step.o, number);
-    text_lines::tell_no_line(number, input);
+pub fn end(rt: &(impl Print + Eprint), out: &[u8], step: Step, number: u64, input: Input) {
+    finish(rt, out, step.o, number);
+    text_lines::tell_no_line(rt, number, input);
 }

@@ -1,17 +1,8 @@
 -- What one turn of a loop over a list does to the definitions of specs/: the rest from index i on, by its first element. Assumes nothing.
-use Prim.Native.Nat.{ℕ, zero, suc, ◌+◌, ◌-◌, ◌*◌, ◌≤◌, ◌<◌}
-use mathlib.Core.Bool.{Bool, true, false, cond}
-use mathlib.Core.Path.{◌≡◌, refl, sym, ◌∙◌, subst}
-use mathlib.Core.List.{List, [], ◌∷◌, ◌++◌}
-use native.Mathlib.Numerals.{add-one}
-use native.Mathlib.Nat.{le_refl, le_trans, le_antisymm}
-use native.Mathlib.Omega.{arith}
-use lib.ListN.{length, get_or, take, drop, length-drop, drop_of_length-le}
-use lib.Seq.{drop-cons, take-suc, take_all}
-use lib.Dec.{T, leb, eqb}
-use borrow.Author.Tests.{leb-true, lt-ltb, le-ltb, eq-eqb, ne_eqb, eqb-true}
+use Rattle.std.proofs.Common.{ℕ, zero, suc, ◌+◌, ◌-◌, ◌*◌, ◌≤◌, ◌<◌, Bool, true, false, cond, ◌≡◌, refl, sym, ◌∙◌, subst, List, [], ◌∷◌, ◌++◌, add-one, le_refl, le_trans, le_antisymm, arith, length, get_or, take, drop, length-drop, length-take, drop_of_length-le, drop-cons, take-suc, take_all, get_or-take, T, le-leb, leb, eqb, leb-true, lt-ltb, le-ltb, eq-eqb, ne_eqb, eqb-true}
+use borrow.Author.Tests.{lt-leb}
 use Rattle.text.specs.declared.field.Field.{Field}
-use Rattle.bytes.specs.Bytes.{index_of, index_after}
+use Rattle.text.specs.Bytes.{index_of, index_after, slice}
 use Rattle.text.specs.Fields.{field_end, found, absent, field_at, count, one, ordinal_of, behind}
 use Rattle.text.specs.Scans.{same, bytes_of, none, place_from, place_of}
 use Rattle.text.specs.Numbers.{all, value_from}
@@ -28,6 +19,26 @@ index-le b (x ∷ xs) = index-after-le (eqb x b) (index_of b xs) (length xs) (in
 
 pub index-within : (b : ℕ) (s : List ℕ) (at : ℕ) → at ≤ length s → at + index_of b (drop at s) ≤ length s
 index-within b s at h = omega (arith, index-le b (drop at s), length-drop at s)
+
+-- the first byte b of the elements from index i up to index e
+module _ (s : List ℕ) (e b i : ℕ) (h : i < e) (l : e ≤ length s) where
+  rest_of : slice i e s ≡ get_or s i 0 ∷ slice (i + 1) e s
+  unfolding slice
+  rest_of =
+      let long : i < length (take e s) = omega (arith, length-take e s) in
+      rw (drop-cons (take e s) i 0 long, get_or-take e s i 0 h, add-one i) refl
+
+  pub index-here : get_or s i 0 ≡ b → i ≡ i + index_of b (slice i e s)
+  unfolding index_of index_after
+  index-here q = rw (rest_of, eq-eqb (get_or s i 0) b q) (omega arith)
+
+  pub index-step : (get_or s i 0 ≡ b → ⊥) → i + index_of b (slice i e s) ≡ i + 1 + index_of b (slice (i + 1) e s)
+  unfolding index_of index_after
+  index-step q = rw (rest_of, ne_eqb (get_or s i 0) b q) (omega arith)
+
+pub index-done : (s : List ℕ) (e b i : ℕ) → e ≤ i → i + index_of b (slice i e s) ≡ i
+unfolding slice index_of
+index-done s e b i h = let l : length (take e s) ≤ i = omega (arith, length-take e s) in rw (drop_of_length-le (take e s) {i = i} l) (omega arith)
 
 module _ (line : List ℕ) (at : ℕ) where
   abbrev either : Bool → Field
@@ -194,3 +205,16 @@ module _ (s : List ℕ) (i : ℕ) where
   -- what one digit more comes to is no more than the whole
   pub value-more : (v : ℕ) → i < length s → 10 * v + (get_or s i 0 - 48) ≤ value_from v (drop i s)
   value-more v h = rw (value-step v h) (value-le (10 * v + (get_or s i 0 - 48)) (drop (i + 1) s))
+
+-- what the loops of each file cite
+pub ruleset index_laws = (index-here, index-step, index-done)
+
+pub ruleset within_laws = (index-within, le-leb, lt-leb)
+
+pub ruleset behind_laws = (behind-step, behind-none, behind-done, one-le)
+
+pub ruleset ordinal_laws = (count-step, one-le, ordinal_here, ordinal_past)
+
+pub ruleset digit_laws = (all-step, all-stop, all_done)
+
+pub ruleset value_laws = (value-step, value-more, value-done, le-leb, lt-leb)

@@ -1,15 +1,6 @@
 -- A number and its sign, as the machine has them. Assumes nothing.
-use Prim.Native.Nat.{ℕ, zero, suc, ◌≤◌, ◌<◌}
-use mathlib.Core.Bool.{Bool, true, false, cond}
-use mathlib.Core.Path.{◌≡◌, refl, sym, subst}
-use mathlib.Core.List.{List, [], ◌∷◌}
-use native.Mathlib.Omega.{arith}
-use lib.ListN.{length}
-use lib.Dec.{T, leb, eqb}
-use lib.IntN.{pos, neg_ℤ, ◌-ℤ◌, +ℤ_idl}
-use borrow.Author.Tests.{leb-true}
-use mir.Syntax.{w32, w64}
-use mir.Val.{SFits}
+use Rattle.std.proofs.Common.{ℕ, zero, suc, ◌≤◌, ◌<◌, Bool, true, false, cond, ◌≡◌, refl, sym, subst, List, [], ◌∷◌, arith, length, T, leb, eqb, pos, neg_ℤ, ◌-ℤ◌, leb-true, w32, w64, SFits}
+use Rattle.std.proofs.Math.IntN.{+ℤ_idl}
 use Rattle.text.specs.Numbers.{number_of, all_digits, value, wrong, empty, not_digit, too_large}
 use Rattle.text.specs.Signs.{is_minus}
 
@@ -35,3 +26,5 @@ number-le s most = by (eqb (length s) 0) (all_digits s) (leb (value s) most) ref
     by false true true e = leb-true (value s) most e
     by false true false e = omega arith
     by false false c e = omega arith
+
+pub ruleset signs = (minus-long, number-le)

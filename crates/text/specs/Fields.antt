@@ -1,6 +1,6 @@
 -- Where the fields of a line begin and end. A line is the list of its bytes; a space is 32.
 use Rattle.std.specs.Prelude.{ℕ, ◌+◌, ◌-◌, Bool, true, false, cond, List, [], ◌∷◌, length, take, drop, leb, ltb, eqb}
-use Rattle.bytes.specs.Bytes.{index_of}
+use Rattle.text.specs.Bytes.{index_of}
 use Rattle.text.specs.declared.field.Field.{Field}
 
 -- the first space from `at` on, or the end of the line

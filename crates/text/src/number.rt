@@ -20,13 +20,14 @@ pub const EXTRA: u8 = 5;
 pub const NOT_WORD: u8 = 6;
 
 // A number, or 0 and what is wrong.
-#[derive(Drop)]
+#[derive(Clone, Copy)]
 pub struct Number {
     pub value: u64,
     pub fault: u8,
 }
 
 // The number that the digits of `s` stand for, at most `most`.
+#[tactic(auto, unfolding(crate::specs::Numbers::number_of))]
 pub fn parse(s: &[u8], most: u64) -> Number
     ensures { result ≡ number_of s.now most }
 {
@@ -45,6 +46,7 @@ pub fn parse(s: &[u8], most: u64) -> Number
     }
 }
 
+#[tactic(auto, using(crate::proofs::Laws::digit_laws))]
 fn all_digits(s: &[u8]) -> bool
     ensures { result ≡ all_digits s.now }
 {
@@ -65,6 +67,7 @@ fn is_digit(b: u8) -> bool
 }
 
 // The value of the digits of `s`. Each digit is tried before it is taken in, so no sum wraps.
+#[tactic(auto, using(crate::proofs::Laws::value_laws))]
 fn value(s: &[u8], most: u64) -> Number
     ensures { result ≡ at_most most (value_of s.now) }
 {

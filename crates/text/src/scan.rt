@@ -9,14 +9,14 @@ use crate::number;
 use crate::number::{Number, parse};
 use crate::signed::{Signed, parse_signed};
 
-#[derive(Drop)]
+#[derive(Clone, Copy)]
 pub struct Scan {
     pub at: usize,
     pub fault: u8,
 }
 
 // A number that was read, and the scan past it. `some` is false where there is none.
-#[derive(Drop)]
+#[derive(Clone, Copy)]
 pub struct Read {
     pub scan: Scan,
     pub some: bool,
@@ -24,28 +24,28 @@ pub struct Read {
 }
 
 // A number with a sign that was read, 0 where there is none, and the scan past it.
-#[derive(Drop)]
+#[derive(Clone, Copy)]
 pub struct ReadSigned {
     pub scan: Scan,
     pub value: i32,
 }
 
 // Whether the next field was the word, and then the scan past it.
-#[derive(Drop)]
+#[derive(Clone, Copy)]
 pub struct Accepted {
     pub scan: Scan,
     pub is: bool,
 }
 
 // Which of some words the next field was, from 0, and the scan past it.
-#[derive(Drop)]
+#[derive(Clone, Copy)]
 pub struct Word {
     pub scan: Scan,
     pub index: usize,
 }
 
 // The place of a word among others, from 0.
-#[derive(Drop)]
+#[derive(Clone, Copy)]
 pub struct Place {
     pub some: bool,
     pub index: usize,
@@ -85,6 +85,7 @@ impl Scan {
     }
 
     // Reads a number, or `-` for none.
+    #[tactic(auto, unfolding(crate::specs::Scans::optional_at))]
     pub fn optional(self, line: &[u8]) -> Read
         ensures { result ≡ optional_at line.now self }
     {
@@ -137,6 +138,7 @@ impl Scan {
     }
 }
 
+#[tactic(auto, using(crate::proofs::Laws::field_within), unfolding(crate::specs::Scans::number_from))]
 fn number_at(line: &[u8], at: usize, most: u64) -> Read
     ensures { result ≡ number_from line.now at most }
 {
@@ -149,6 +151,7 @@ fn number_at(line: &[u8], at: usize, most: u64) -> Read
     stopped(at, number::MISSING)
 }
 
+#[tactic(auto, using(crate::proofs::Laws::field_within), unfolding(crate::specs::Scans::signed_from))]
 fn signed_at(line: &[u8], at: usize) -> ReadSigned
     ensures { result ≡ signed_from line.now at }
 {
@@ -179,6 +182,7 @@ fn moved_signed(at: usize, next: usize, n: Signed) -> ReadSigned
     }
 }
 
+#[tactic(auto, using(crate::proofs::Laws::field_within), unfolding(crate::specs::Scans::accept_from))]
 fn accept_at(line: &[u8], at: usize, word: &[u8]) -> Accepted
     ensures { result ≡ accept_from line.now at word.now }
 {
@@ -205,6 +209,7 @@ fn accept_at(line: &[u8], at: usize, word: &[u8]) -> Accepted
     }
 }
 
+#[tactic(auto, using(crate::proofs::Laws::field_within), unfolding(crate::specs::Scans::word_from))]
 fn word_at(line: &[u8], at: usize, words: &[u8]) -> Word
     ensures { result ≡ word_from line.now at words.now }
 {
@@ -237,6 +242,7 @@ fn worded(at: usize, next: usize, p: Place) -> Word
 }
 
 // The place of the field of `words` that is `word`.
+#[tactic(auto, using(crate::proofs::Laws::field_within))]
 pub fn place_of(words: &[u8], word: &[u8]) -> Place
     ensures { result ≡ place_of words.now word.now }
 {

@@ -5,13 +5,14 @@ ghost use Rattle.text.specs.Signs.{is_minus, signed_of};
 use crate::number::parse;
 
 // A number from -2^31 to 2^31 - 1, or 0 and what is wrong.
-#[derive(Drop)]
+#[derive(Clone, Copy)]
 pub struct Signed {
     pub value: i32,
     pub fault: u8,
 }
 
 // The number that `s` stands for: digits, with `-` before them where it is below 0.
+#[tactic(auto, using(crate::proofs::Signs::signs), unfolding(crate::specs::Signs::signed_of))]
 pub fn parse_signed(s: &[u8]) -> Signed
     ensures { result ≡ signed_of s.now }
 {

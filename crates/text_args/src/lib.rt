@@ -3,6 +3,7 @@
 // `requires`: past the end of the row a number is 0, and a number that a narrower type does not hold
 // becomes its largest.
 #![tactic(auto)]
+
 ghost use Rattle.std.specs.Prelude.{◌≡◌, ◌+◌};
 ghost use Rattle.text_args.specs.Args.{number_at, flag_at, byte_at, word_at, signed_at, index_at, when_at, extra_at, largest_word};
 ghost use Rattle.time.specs.Time.{least};
@@ -33,12 +34,14 @@ pub fn size(a: &[u64; ARGS], i: usize) -> usize
     number(a, i) as usize
 }
 
+#[tactic(auto, unfolding(crate::specs::Args::flag_at))]
 pub fn flag(a: &[u64; ARGS], i: usize) -> bool
     ensures { result ≡ flag_at a.now i }
 {
     number(a, i) == 1
 }
 
+#[tactic(auto, using(time::specs::Pick::picks), unfolding(crate::specs::Args::byte_at, time::specs::Time::least))]
 pub fn byte(a: &[u64; ARGS], i: usize) -> u8
     ensures { result ≡ byte_at a.now i }
 {
@@ -46,12 +49,14 @@ pub fn byte(a: &[u64; ARGS], i: usize) -> u8
     if n <= 255 { n as u8 } else { 255 }
 }
 
+#[tactic(auto, unfolding(crate::specs::Args::word_at))]
 pub fn word(a: &[u64; ARGS], i: usize) -> u32
     ensures { result ≡ word_at a.now i }
 {
     narrow(number(a, i))
 }
 
+#[tactic(auto, unfolding(crate::specs::Args::signed_at))]
 pub fn signed(a: &[u64; ARGS], i: usize) -> i32
     ensures { result ≡ signed_at a.now i }
 {
@@ -60,6 +65,7 @@ pub fn signed(a: &[u64; ARGS], i: usize) -> i32
 }
 
 // The index whose flag is at `i` and whose number is behind it.
+#[tactic(auto, unfolding(crate::specs::Args::index_at, crate::specs::Args::word_at))]
 pub fn index(a: &[u64; ARGS], i: usize) -> Index
     ensures { result ≡ index_at a.now i }
 {
@@ -70,6 +76,7 @@ pub fn index(a: &[u64; ARGS], i: usize) -> Index
 }
 
 // The number that may be absent, whose flag is at `i` and whose value is behind it.
+#[tactic(auto, unfolding(crate::specs::Args::when_at))]
 pub fn when(a: &[u64; ARGS], i: usize) -> When
     ensures { result ≡ when_at a.now i }
 {
@@ -81,6 +88,7 @@ pub fn when(a: &[u64; ARGS], i: usize) -> When
 }
 
 // The extra of a poll. One below 0 becomes the largest: both are outside of every setting.
+#[tactic(auto, using(time::specs::Pick::picks), unfolding(crate::specs::Args::extra_at))]
 pub fn extra(a: &[u64; ARGS], i: usize) -> u32
     ensures { result ≡ extra_at a.now i }
 {
@@ -91,6 +99,7 @@ pub fn extra(a: &[u64; ARGS], i: usize) -> u32
     narrow(n - ZERO)
 }
 
+#[tactic(auto, using(std::proofs::lemmas::Grind::common_steps), unfolding(crate::specs::Args::number_at))]
 fn at(a: &[u64], i: usize) -> u64
     ensures { result ≡ number_at a.now i }
 {
@@ -98,12 +107,14 @@ fn at(a: &[u64], i: usize) -> u64
 }
 
 // The number one place behind `i`.
+#[tactic(auto, using(std::proofs::lemmas::Grind::common_steps), unfolding(crate::specs::Args::number_at))]
 fn behind(a: &[u64], i: usize) -> u64
     ensures { result ≡ number_at a.now (i + 1) }
 {
     if i < a.len() { at(a, i + 1) } else { 0 }
 }
 
+#[tactic(auto, using(time::specs::Pick::picks), unfolding(time::specs::Time::least))]
 fn narrow(n: u64) -> u32
     ensures { result ≡ least n largest_word }
 {

@@ -1,6 +1,6 @@
 -- Laws of the calls by number.
-use Rattle.std.specs.Prelude.{ℕ, ◌+◌, ◌≡◌, refl, List, [], ◌∷◌, ◌++◌, length}
-use Rattle.std.proofs.Common.{sym, ◌∙◌, ap, subst, arith, length-append}
+use Rattle.std.specs.Prelude.{ℕ, ◌≡◌, refl, List, [], ◌∷◌, length}
+use Rattle.std.proofs.Common.{sym, ap, subst, arith, length-append}
 use borrow.Author.Tests.{ne_eqb}
 use Rattle.events.specs.Events.{Event}
 use Rattle.events.proofs.Laws.{eight-words}

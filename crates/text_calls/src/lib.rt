@@ -1,6 +1,7 @@
 // The calls of a link on a row of arguments: what stands between the calls and the programs. Each
 // promises its call's definition at what the row holds. No function has a `requires`.
 #![tactic(auto)]
+
 ghost use Rattle.std.specs.Prelude.{◌≡◌, []};
 ghost use Rattle.answer.specs.Answers.{Answers};
 ghost use Rattle.text_calls.specs.Calls.{open_on, poll_on, proof_at, frame_on, target_on, start_at, reply_on, sent_on, wake_on, status_on, answer_on, left_on};
@@ -16,7 +17,7 @@ use text_args::ARGS;
 pub mod place;
 
 // A link: its state, and what stays the same over its calls.
-#[derive(Drop)]
+#[derive(Clone, Copy)]
 pub struct Link {
     pub state: State,
     pub cfg: Config,
@@ -24,6 +25,7 @@ pub struct Link {
 }
 
 // A fresh link. The state at hand is not read.
+#[tactic(auto, unfolding(crate::specs::Calls::open_on))]
 pub fn open(link: Link, a: &[u64; ARGS], log: &mut [u64; 768]) -> Answer
     ensures { Answers (open_on link a.now) result log.old log.new }
 {
@@ -43,6 +45,7 @@ pub fn open(link: Link, a: &[u64; ARGS], log: &mut [u64; 768]) -> Answer
     )
 }
 
+#[tactic(auto, unfolding(crate::specs::Calls::poll_on))]
 pub fn poll(link: Link, a: &[u64; ARGS], log: &mut [u64; 768]) -> Answer
     ensures { Answers (poll_on link a.now) result log.old log.new }
 {
@@ -62,6 +65,7 @@ pub fn poll(link: Link, a: &[u64; ARGS], log: &mut [u64; 768]) -> Answer
 }
 
 // A frame's plaintext is at the front of the source; the target takes what is delivered.
+#[tactic(auto, unfolding(crate::specs::Calls::frame_on, crate::specs::Calls::target_on))]
 pub fn frame(
     link: Link,
     a: &[u64; ARGS],
@@ -91,6 +95,7 @@ pub fn frame(
     )
 }
 
+#[tactic(auto, unfolding(crate::specs::Calls::proof_at))]
 fn frame_proof(a: &[u64; ARGS]) -> FrameProof
     ensures { result ≡ proof_at a.now }
 {
@@ -104,6 +109,7 @@ fn frame_proof(a: &[u64; ARGS]) -> FrameProof
     }
 }
 
+#[tactic(auto, unfolding(crate::specs::Calls::reply_on))]
 pub fn reply(link: Link, a: &[u64; ARGS]) -> Answer
     ensures { Answers (reply_on link a.now) result [] [] }
 {
@@ -120,6 +126,7 @@ pub fn reply(link: Link, a: &[u64; ARGS]) -> Answer
     )
 }
 
+#[tactic(auto, unfolding(crate::specs::Calls::start_at))]
 fn start_reply(a: &[u64; ARGS]) -> StartReply
     ensures { result ≡ start_at a.now }
 {
@@ -133,6 +140,7 @@ fn start_reply(a: &[u64; ARGS]) -> StartReply
     }
 }
 
+#[tactic(auto, unfolding(crate::specs::Calls::sent_on))]
 pub fn sent(link: Link, a: &[u64; ARGS]) -> Answer
     ensures { Answers (sent_on link a.now) result [] [] }
 {
@@ -144,6 +152,7 @@ pub fn sent(link: Link, a: &[u64; ARGS]) -> Answer
     )
 }
 
+#[tactic(auto, unfolding(crate::specs::Calls::wake_on))]
 pub fn wake(link: Link) -> Woke
     ensures { result ≡ wake_on link }
 {
@@ -153,6 +162,7 @@ pub fn wake(link: Link) -> Woke
     call_read::wake(s, cfg, profile)
 }
 
+#[tactic(auto, unfolding(crate::specs::Calls::status_on))]
 pub fn status(link: Link, a: &[u64; ARGS]) -> Shown
     ensures { result ≡ status_on link a.now }
 {

@@ -5,7 +5,7 @@ pub const MOST: usize = 8;
 
 // A field: its name lies from `name` to `end` of the entry, and the field behind it starts at `next`.
 // There is none at the `:` before the words.
-#[derive(Drop)]
+#[derive(Clone, Copy)]
 pub struct EventField {
     pub some: bool,
     pub name: usize,

@@ -2,6 +2,7 @@
 // the tag and the evidence, and the rest in words where it is asked to explain. No public function has a
 // `requires`.
 #![tactic(auto)]
+
 mod fields;
 mod show;
 

@@ -1,6 +1,7 @@
 // Lines and rows of numbers: settings, a profile, a state and the arguments of a call, read by place
 // and by name from the one list of crate `text_words`. No public function has a `requires`.
 #![tactic(auto)]
+
 mod letters;
 mod named;
 pub mod places;

@@ -12,7 +12,7 @@ pub const NAMES: usize = 32;
 
 // The argument that a line names: its number from 0, its letter, its place in the row, and the scan
 // past its name. `value` is that of a word which needs no other.
-#[derive(Drop)]
+#[derive(Clone, Copy)]
 struct Found {
     some: bool,
     index: usize,

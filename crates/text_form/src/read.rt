@@ -10,7 +10,7 @@ pub const MOST: usize = 64;
 // How far a line is read; the next place of the row; the most that the last number could be; whether
 // the line claims more than is kept; and whether an absent value is `none`, as where arguments have
 // names, or `-`.
-#[derive(Drop)]
+#[derive(Clone, Copy)]
 pub struct Cursor {
     pub scan: Scan,
     pub at: usize,
@@ -21,7 +21,7 @@ pub struct Cursor {
 
 // The scan past what was read, the most that the last number could be, and whether a state claims more
 // than is kept: more than MAX_RUNGS rungs or 32 candidates, or a cursor past 255.
-#[derive(Drop)]
+#[derive(Clone, Copy)]
 pub struct Reading {
     pub scan: Scan,
     pub most: u64,

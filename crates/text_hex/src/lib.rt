@@ -1,9 +1,9 @@
 // Buffers in hex: two digits a byte, and `-` for an empty buffer. No public function has a
 // `requires`.
 #![tactic(auto)]
-ghost use Rattle.std.specs.Prelude.{◌≡◌, ◌≤◌};
 
-use libc::STDOUT_FILENO;
+ghost use Rattle.std.specs.Prelude.{◌≡◌, ◌≤◌, length};
+
 use text::Scan;
 use text_lines::Output;
 
@@ -11,7 +11,7 @@ use text_lines::Output;
 pub const NOT_HEX: u8 = 7;
 
 // How many bytes a buffer has, and the scan past it.
-#[derive(Drop)]
+#[derive(Clone, Copy)]
 pub struct Buffer {
     pub scan: Scan,
     pub len: usize,
@@ -19,7 +19,7 @@ pub struct Buffer {
 
 // Reads a buffer to the front of `into`. One that does not fit there is too large.
 pub fn read(line: &[u8], scan: Scan, into: &mut [u8]) -> Buffer
-    ensures* { do ⌜ result.len ≤ (← (⟦into.len()⟧).entry) ⌝ }
+    ensures { result.len ≤ length into.old }
 {
     let dash = scan.accept(line, b"-");
     let past = dash.scan;
@@ -33,7 +33,7 @@ pub fn read(line: &[u8], scan: Scan, into: &mut [u8]) -> Buffer
 }
 
 fn read_at(line: &[u8], at: usize, into: &mut [u8]) -> Buffer
-    ensures* { do ⌜ result.len ≤ (← (⟦into.len()⟧).entry) ⌝ }
+    ensures { result.len ≤ length into.old }
 {
     let f = text::next_field(line, at);
     let start = f.start;
@@ -53,7 +53,7 @@ fn read_at(line: &[u8], at: usize, into: &mut [u8]) -> Buffer
 
 // Reads the field `s` that starts at `at` of its line.
 fn read_field(s: &[u8], at: usize, next: usize, into: &mut [u8]) -> Buffer
-    ensures* { do ⌜ result.len ≤ (← (⟦into.len()⟧).entry) ⌝ }
+    ensures { result.len ≤ length into.old }
 {
     let n = s.len() / 2;
     if n * 2 != s.len() {
@@ -140,26 +140,26 @@ fn put(into: &mut [u8], i: usize, high: u8, low: u8) -> bool {
 }
 
 // Writes a buffer in small letters.
-pub fn write(out: &mut [u8], o: Output, s: &[u8]) -> Output {
+pub fn write(rt: &impl Print, out: &mut [u8], o: Output, s: &[u8]) -> Output {
     if s.len() == 0 {
-        return o.bytes(STDOUT_FILENO, out, b"-");
+        return o.bytes(rt, out, b"-");
     }
-    write_all(out, o, s)
+    write_all(rt, out, o, s)
 }
 
-fn write_all(out: &mut [u8], o: Output, s: &[u8]) -> Output {
+fn write_all(rt: &impl Print, out: &mut [u8], o: Output, s: &[u8]) -> Output {
     let mut written = o;
     let mut i: usize = 0;
     while i < s.len() {
-        written = write_byte(out, written, s[i]);
+        written = write_byte(rt, out, written, s[i]);
         i += 1;
     }
     written
 }
 
-fn write_byte(out: &mut [u8], o: Output, b: u8) -> Output {
+fn write_byte(rt: &impl Print, out: &mut [u8], o: Output, b: u8) -> Output {
     let pair = [letter(b / 16), letter(b % 16)];
-    o.bytes(STDOUT_FILENO, out, &pair)
+    o.bytes(rt, out, &pair)
 }
 
 fn letter(d: u8) -> u8 {

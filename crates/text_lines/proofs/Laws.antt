@@ -1,14 +1,7 @@
 -- What a buffer holds once bytes are put, and a number as `io` spells it. Assumes nothing.
-use Prim.Native.Nat.{ℕ, zero, suc, ◌+◌, ◌-◌, ◌*◌, ◌/◌, ◌%◌, ◌^◌, ◌≤◌, ◌<◌}
-use mathlib.Core.Bool.{Bool, true, false}
-use mathlib.Core.Path.{◌≡◌, refl, sym}
-use mathlib.Core.List.{List}
-use native.Mathlib.Numerals.{sub-one}
-use native.Mathlib.Nat.{not-suc-le-zero, pow-succ', one-le-pow, pow-le-pow_right}
-use native.Mathlib.Omega.{arith}
-use lib.ListN.{length}
-use lib.Dec.{leb}
-use borrow.Author.Tests.{le-leb, lt-leb, leb-true, leb-false, lt-ltb, le-ltb}
+use Rattle.std.proofs.Common.{ℕ, zero, suc, ◌+◌, ◌-◌, ◌*◌, ◌/◌, ◌%◌, ◌^◌, ◌≤◌, ◌<◌, Bool, true, false, ◌≡◌, refl, sym, List, arith, sub-one, not-suc-le-zero, length, leb, le-leb, leb-true, leb-false, lt-ltb, le-ltb}
+use native.Mathlib.Nat.{pow-succ', one-le-pow, pow-le-pow_right}
+use borrow.Author.Tests.{lt-leb}
 use Rattle.io.specs.Digits.{last_digits, IsDigitCount}
 use Rattle.text_lines.specs.Outputs.{fits, written, written_to, held, held_to, decimal}
 
@@ -59,3 +52,7 @@ spelled n r l f = fewest 20 r n (under (leb r 20) refl) f
         let h : 20 < r = leb-false r 20 e in
         let p : 10 ^ 20 ≤ 10 ^ (r - 1) = pow-le-pow_right {n = 10} (omega arith) {i = 20} {j = r - 1} (omega arith) in
         omega (arith, f.2 (omega arith))
+
+pub ruleset fits_laws = (leb-sub, le-leb, lt-leb)
+
+pub ruleset held_laws = (held-behind, held-front, held-apart)

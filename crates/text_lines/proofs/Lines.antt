@@ -1,15 +1,7 @@
 -- What stands in a buffer once bytes have moved to its front, and what a line found in it is. Assumes nothing.
-use Prim.Native.Nat.{ℕ, ◌+◌, ◌-◌, ◌*◌, ◌≤◌, ◌<◌}
-use mathlib.Core.Bool.{Bool, true, false, cond}
-use mathlib.Core.Path.{◌≡◌, refl, sym, ◌∙◌, ap, subst}
-use mathlib.Core.List.{List}
-use native.Mathlib.Nat.{zero-add}
-use native.Mathlib.Omega.{arith}
-use lib.ListN.{length, get_or, take, drop, length-drop}
-use lib.Seq.{get_or-drop, paste, take-paste, drop-paste}
-use lib.Dec.{T, ltb}
-use borrow.Author.Tests.{ltb-true}
-use Rattle.bytes.specs.Bytes.{index_of, slice}
+use Rattle.std.proofs.Common.{ℕ, ◌+◌, ◌-◌, ◌*◌, ◌≤◌, ◌<◌, Bool, true, false, cond, ◌≡◌, refl, sym, ◌∙◌, ap, subst, List, zero-add, arith, length, get_or, take, drop, length-drop, get_or-drop, T, ltb, ltb-true}
+use Rattle.std.proofs.Math.Seq.{paste, take-paste, drop-paste}
+use Rattle.text.specs.Bytes.{index_of, slice}
 use Rattle.text_lines.specs.declared.input.Input.{Input}
 use Rattle.text_lines.specs.Inputs.{Filled, Found, line_to, no_line, last_of}
 

@@ -1,6 +1,6 @@
--- What is known of a buffer that a file descriptor fills: which bytes are read is not.
+-- What is known of a buffer that a reader fills: which bytes are read is not.
 use Rattle.std.specs.Prelude.{ℕ, ◌+◌, ◌-◌, ◌≤◌, ◌<◌, min, Bool, true, false, cond, ltb, eqb, ◌≡◌, List, length, get_or, take, drop}
-use Rattle.bytes.specs.Bytes.{index_of, slice}
+use Rattle.text.specs.Bytes.{index_of, slice}
 use Rattle.text_lines.specs.declared.input.Input.{Input}
 use Rattle.text_lines.specs.declared.input.Line.{Line}
 

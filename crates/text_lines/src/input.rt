@@ -1,12 +1,14 @@
-// Lines of a file descriptor, through a lent buffer. A line is a part of the buffer, so a line that
+// Lines of a reader, through a lent buffer. A line is a part of the buffer, so a line that
 // is longer than the buffer is not found.
 ghost use Rattle.std.specs.Prelude.{◌≡◌, ◌-◌, ◌≤◌, min, length, drop};
 ghost use Rattle.std.proofs.Math.Seq.{paste};
 ghost use Rattle.text_lines.specs.Inputs.{Filled, Found, line_to, no_line, last_of, waiting, line_end};
 ghost use Rattle.io.specs.Counts.{IsPrefixLen};
 
+use std::io::Read;
+
 // The bytes of the buffer that are not read yet lie from `start` to `end`.
-#[derive(Drop)]
+#[derive(Clone, Copy)]
 pub struct Input {
     pub start: usize,
     pub end: usize,
@@ -16,7 +18,7 @@ pub struct Input {
 
 // The next line, from `start` to `end` of the buffer, and the input after it. Where there is none
 // the input has failed, or else it has ended, or else the line is longer than the buffer.
-#[derive(Drop)]
+#[derive(Clone, Copy)]
 pub struct Line {
     pub some: bool,
     pub start: usize,
@@ -34,14 +36,14 @@ impl Input {
         }
     }
 
-    pub fn line(self, fd: i32, buf: &mut [u8]) -> Line
+    pub fn line(self, from: &mut impl Read, buf: &mut [u8]) -> Line
         ensures { Found buf.new result }
     {
         let mut input = bounded(self, buf.len());
         loop {
             let start = input.start;
             let end = input.end;
-            let stop = bytes::scan::find(buf, start, end, b'\n');
+            let stop = text::find_before(buf, start, end, b'\n');
             if stop < end {
                 return line_to(input, stop, stop + 1);
             }
@@ -51,12 +53,13 @@ impl Input {
             if end - start == buf.len() {
                 return none(input);
             }
-            input = fill(fd, buf, start, end);
+            input = fill(from, buf, start, end);
         }
     }
 
     // Whether the next line is not whole in the buffer, so that `line` reads. A program writes out
     // what it holds before such a read, since the one who types lines waits for the answers.
+    #[tactic(auto, unfolding(crate::specs::Inputs::waiting))]
     pub fn waits(self, buf: &[u8]) -> bool
         ensures { result ≡ waiting buf.now self }
     {
@@ -65,11 +68,12 @@ impl Input {
         }
         let end = least(self.end, buf.len());
         let start = least(self.start, end);
-        bytes::scan::find(buf, start, end, b'\n') == end
+        text::find_before(buf, start, end, b'\n') == end
     }
 }
 
 // How long a line is without the carriage return that a line of some systems ends with.
+#[tactic(auto, unfolding(crate::specs::Inputs::line_end))]
 pub fn line_end(line: &[u8]) -> usize
     ensures prefix_len { IsPrefixLen result line.now }
     ensures value { result ≡ line_end line.now }
@@ -145,18 +149,24 @@ fn least(a: usize, b: usize) -> usize
 }
 
 // Moves the bytes from `start` to `end` to the front of `buf`, and reads once behind them.
-fn fill(fd: i32, buf: &mut [u8], start: usize, end: usize) -> Input
+fn fill(from: &mut impl Read, buf: &mut [u8], start: usize, end: usize) -> Input
     requires { (start ≤ end) × (end ≤ length buf.old) }
     ensures { Filled buf.old buf.new start end result }
 {
     let kept = shift(buf, start, end);
-    let got = libc::read(fd, &mut buf[kept..]);
-    let n = io::count(got, &buf[kept..]);
-    Input {
-        start: 0,
-        end: kept + n,
-        ended: n == 0,
-        failed: got < 0,
+    match from.read(&mut buf[kept..]) {
+        Ok(n) => Input {
+            start: 0,
+            end: kept + n,
+            ended: n == 0,
+            failed: false,
+        },
+        Err(_) => Input {
+            start: 0,
+            end: kept,
+            ended: true,
+            failed: true,
+        },
     }
 }
 

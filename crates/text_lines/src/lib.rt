@@ -1,5 +1,6 @@
 // Lines that a program reads and writes, through lent buffers. No public function has a `requires`.
 #![tactic(auto)]
+
 mod input;
 mod output;
 mod parts;

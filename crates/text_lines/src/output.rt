@@ -4,6 +4,7 @@ ghost use Rattle.text_lines.specs.Outputs.{fitting as fitting_of, written, writt
 
 // Copies `s` into `out` from index `at` on, as far as `out` reaches, and answers the index after
 // what was copied.
+#[tactic(auto, unfolding(crate::specs::Outputs::written, crate::specs::Outputs::written_to))]
 pub fn put(out: &mut [u8], at: usize, s: &[u8]) -> usize
     ensures { (result ≡ written_to out.old at s.now) × (out.new ≡ written out.old at s.now) }
 {
@@ -36,7 +37,7 @@ pub fn put_number(out: &mut [u8], at: usize, n: u64) -> usize
 }
 
 // How far a lent buffer holds what is to be written out, and whether a write has failed.
-#[derive(Drop)]
+#[derive(Clone, Copy)]
 pub struct Output {
     pub at: usize,
     pub failed: bool,
@@ -51,7 +52,7 @@ impl Output {
     }
 
     // Writes out what the buffer holds. After a write that failed nothing more is written.
-    pub fn flush(self, fd: i32, out: &[u8]) -> Output
+    pub fn flush(self, rt: &impl Print, out: &[u8]) -> Output
         ensures { result.at ≡ 0 }
     {
         let at = self.at;
@@ -67,7 +68,7 @@ impl Output {
                 failed: true,
             };
         }
-        let written = io::write_all(fd, &out[..at]);
+        let written = rt.write_all(&out[..at]).is_ok();
         Output {
             at: 0,
             failed: !written,
@@ -76,7 +77,8 @@ impl Output {
 
     // Puts `s` behind what the buffer holds. Where it does not fit the buffer is written out first,
     // and so is `s` where it is longer than the buffer.
-    pub fn bytes(self, fd: i32, out: &mut [u8], s: &[u8]) -> Output
+    #[tactic(auto, using(crate::proofs::Laws::held_laws))]
+    pub fn bytes(self, rt: &impl Print, out: &mut [u8], s: &[u8]) -> Output
         ensures { (result.at ≡ held_to out.old self.at s.now) × (out.new ≡ held out.old self.at s.now) }
     {
         let at = self.at;
@@ -87,7 +89,7 @@ impl Output {
                 failed: self.failed,
             };
         }
-        let flushed = self.flush(fd, out);
+        let flushed = self.flush(rt, out);
         if s.len() <= out.len() {
             let next = put(out, 0, s);
             return Output {
@@ -99,19 +101,20 @@ impl Output {
             at: s.len(),
             failed: flushed.failed,
         };
-        whole.flush(fd, s)
+        whole.flush(rt, s)
     }
 
     // Puts the decimal digits of `n` in the same way.
-    pub fn number(self, fd: i32, out: &mut [u8], n: u64) -> Output
+    pub fn number(self, rt: &impl Print, out: &mut [u8], n: u64) -> Output
         ensures { (result.at ≡ held_to out.old self.at (decimal_of n)) × (out.new ≡ held out.old self.at (decimal_of n)) }
     {
         let mut digits = [0u8; 20];
         let k = io::decimal(n, &mut digits);
-        self.bytes(fd, out, &digits[..k])
+        self.bytes(rt, out, &digits[..k])
     }
 }
 
+#[tactic(auto, using(crate::proofs::Laws::fits_laws))]
 fn fits(n: usize, at: usize, len: usize) -> bool
     ensures { result ≡ leb (at + n) len }
 {

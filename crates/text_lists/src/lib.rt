@@ -12,6 +12,7 @@
 //   x c w k     a reason, a cause, why a link is closed, what calls for a start
 //   0           always 0, and no word of the log
 #![tactic(auto)]
+
 mod words;
 
 // The lists.

@@ -1,6 +1,7 @@
 // The notices on a row of arguments. Each promises its call's definition at what the row holds. No
 // function has a `requires`.
 #![tactic(auto)]
+
 ghost use Rattle.answer.specs.Answers.{Answers};
 ghost use Rattle.text_notices.specs.Notices.{worker_on, delegated_on, undelegated_on, data_sent_on, path_on, notice_on};
 
@@ -12,6 +13,7 @@ use text_args::ARGS;
 pub mod place;
 
 // A worker authenticated a frame.
+#[tactic(auto, unfolding(crate::specs::Notices::worker_on))]
 pub fn worker(
     s: State,
     cfg: Config,
@@ -36,6 +38,7 @@ pub fn worker(
 }
 
 // A worker accepted a receive copy.
+#[tactic(auto, unfolding(crate::specs::Notices::delegated_on))]
 pub fn delegated(
     s: State,
     cfg: Config,
@@ -53,6 +56,7 @@ pub fn delegated(
 }
 
 // A worker is gone.
+#[tactic(auto, unfolding(crate::specs::Notices::undelegated_on))]
 pub fn undelegated(
     s: State,
     cfg: Config,
@@ -70,6 +74,7 @@ pub fn undelegated(
 }
 
 // An application message was sealed.
+#[tactic(auto, unfolding(crate::specs::Notices::data_sent_on))]
 pub fn data_sent(
     s: State,
     cfg: Config,
@@ -86,6 +91,7 @@ pub fn data_sent(
 }
 
 // Whether a next hop exists, and the smoothed round trip.
+#[tactic(auto, unfolding(crate::specs::Notices::path_on))]
 pub fn path(
     s: State,
     cfg: Config,

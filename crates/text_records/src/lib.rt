@@ -1,6 +1,7 @@
 // The settings, the profile and the state of a row as records, and a state into a row. No public
 // function has a `requires`.
 #![tactic(auto)]
+
 mod build;
 mod given;
 mod store;

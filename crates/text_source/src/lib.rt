@@ -1,48 +1,119 @@
 // The arguments of a program that reads lines: `--help`, and the files that it reads. Arguments are
 // numbered from 1. No public function has a `requires`.
 #![tactic(auto)]
-use libc::STDIN_FILENO;
+
+use std::env::FillError;
+use std::io::Read;
+use std::rt::{Env, Files};
+use std::{fs, io, str};
+
+// What a program reads lines from: standard input, or a file.
+#[derive(Drop)]
+pub enum Source<I, F> {
+    Standard(I),
+    Named(F),
+}
+
+impl<I: Read, F: Read> Read for Source<I, F> {
+    fn read(&mut self, buf: &mut [u8]) -> io::Result<usize> {
+        match self {
+            Source::Standard(input) => input.read(buf),
+            Source::Named(file) => file.read(buf),
+        }
+    }
+}
 
 // How many arguments stand behind the program's name.
-pub fn count() -> usize {
-    let n = os::arg_count();
-    if n == 0 { 0 } else { n - 1 }
+pub fn count(rt: &impl Env) -> usize {
+    let mut n: usize = 0;
+    for i in 1..usize::MAX {
+        if !is_there(rt, i) {
+            return n;
+        }
+        n = i;
+    }
+    n
+}
+
+fn is_there(rt: &impl Env, i: usize) -> bool {
+    let mut name = [0u8; 1];
+    match rt.arg(i, &mut name) {
+        Err(FillError::NotPresent) => false,
+        _ => true,
+    }
 }
 
 // Whether argument `i` asks for help.
-pub fn is_help(i: usize) -> bool {
-    let mut name = io::buffer();
-    let n = os::arg(i, &mut name);
-    text::place_of(b"--help -h", &name[..n]).some
-}
-
-// Opens the file that argument `i` names, `-` for standard input, and answers its descriptor, or
-// tells why it cannot be opened and answers -1.
-pub fn open(i: usize) -> i32 {
-    let mut name = io::buffer();
-    let n = os::arg(i, &mut name);
-    if os::errno() != 0 {
-        os::fail(b"the file's name");
-        return -1;
+pub fn is_help(rt: &impl Env, i: usize) -> bool {
+    let mut name = [0u8; 4096];
+    match rt.arg(i, &mut name) {
+        Ok(n) => text::place_of(b"--help -h", &name[..n]).some,
+        Err(_) => false,
     }
-    open_named(&name[..n])
 }
 
-fn open_named(name: &[u8]) -> i32 {
+// Opens the file that argument `i` names, `-` for standard input, or tells why it cannot be opened
+// and answers none.
+pub fn open<R: Env + Files + Input + Eprint + Alloc>(
+    rt: &R,
+    i: usize,
+) -> Option<Source<R::Reader, R::File>> {
+    let mut name = [0u8; 4096];
+    match rt.arg(i, &mut name) {
+        Ok(n) => open_bytes(rt, &name[..n]),
+        Err(FillError::TooLong) => refused(rt, "File name too long"),
+        Err(FillError::NotPresent) => refused(rt, "Invalid argument"),
+    }
+}
+
+fn open_bytes<R: Files + Input + Eprint + Alloc>(
+    rt: &R,
+    name: &[u8],
+) -> Option<Source<R::Reader, R::File>> {
     if text::place_of(b"-", name).some {
-        return STDIN_FILENO;
+        return Some(Source::Standard(rt.reader()));
     }
-    let fd = os::open_read(name);
-    if fd < 0 {
-        os::fail(name);
-        return -1;
+    match str::from_utf8(name) {
+        Ok(path) => open_named(rt, path),
+        Err(_) => refused(rt, "it is not UTF-8"),
     }
-    fd
 }
 
-// Closes a descriptor that `open` gave, unless it is standard input.
-pub fn close(fd: i32) {
-    if STDIN_FILENO < fd {
-        libc::close(fd);
+fn refused<R: Files + Input + Eprint>(rt: &R, words: &str) -> Option<Source<R::Reader, R::File>> {
+    let _ = eprintln!(rt; "the file's name: {words}");
+    None
+}
+
+fn open_named<R: Files + Input + Eprint + Alloc>(
+    rt: &R,
+    name: &str,
+) -> Option<Source<R::Reader, R::File>> {
+    match fs::open(rt, name) {
+        Ok(file) => Some(Source::Named(file)),
+        Err(e) => {
+            tell(rt, name, e);
+            None
+        }
     }
+}
+
+// What failed, and the system's words for it.
+fn tell(rt: &(impl Eprint + Alloc), what: &str, e: io::Error) {
+    let Ok(text) = e.to_string(rt.alloc()) else {
+        let _ = eprintln!(rt; "{what}: {e}");
+        return;
+    };
+    tell_words(rt, what, text.as_str());
+}
+
+// The words without the number of the error behind them.
+fn tell_words(rt: &impl Eprint, what: &str, text: &str) {
+    let end = text.find(" (os error ").unwrap_or(text.len());
+    let words = text.get(..end).unwrap_or(text);
+    let _ = eprintln!(rt; "{what}: {words}");
+}
+
+// Closes what `open` gave.
+pub fn close<I: Drop, F: Drop>(source: Source<I, F>) {
+    drop(source);
 }

@@ -19,6 +19,7 @@
 //   .           the value stays what it was: the settings' so far, or that of a record as it was made
 //   @           the tag of the current epoch; of a frame, that of the epoch in its slot
 #![tactic(auto)]
+
 mod names;
 mod walk;
 

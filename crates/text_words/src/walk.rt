@@ -3,7 +3,7 @@ use text::{Accepted, Number, Scan};
 
 // An argument: its name lies from `name` to `name_end` of the entry, its default from `default` to
 // `default_end`, and the argument behind it starts at `next`. There is none past the end.
-#[derive(Drop)]
+#[derive(Clone, Copy)]
 pub struct Argument {
     pub some: bool,
     pub name: usize,
@@ -15,7 +15,7 @@ pub struct Argument {
 }
 
 // The first word of a choice lies from `start` to `bar`, the second from `second` to the name's end.
-#[derive(Drop)]
+#[derive(Clone, Copy)]
 pub struct Choice {
     pub start: usize,
     pub bar: usize,

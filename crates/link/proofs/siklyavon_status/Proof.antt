@@ -1,4 +1,4 @@
-use Rattle.law_status.specs.Line.{quiet_line}
+use Rattle.law_status.proofs.Line.{quiet_line}
 use Rattle.link.proofs.siklyavon_status.Statement.{statement}
 use Rattle.link.proofs.siklyavon_status.Tie as tie
 

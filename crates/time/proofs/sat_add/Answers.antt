@@ -2,7 +2,6 @@ use native.Mathlib.Omega.{arith}
 use Prim.Native.Nat.{◌+◌, ◌≤◌, ◌<◌}
 use borrow.Author.Tests.{le-leb, lt-leb}
 use Rattle.time.specs.Time.{sat_add}
-use borrow.Author.Rules.{rules}
 use Rattle.time.proofs.sat_add.Goals as goal
 
 pub returns-then-b-a : goal.returns-then-b-a

@@ -3,7 +3,6 @@ use mathlib.Core.Path.{◌≡◌}
 use native.Mathlib.Omega.{arith}
 use native.Mathlib.Nat.{zero-mul, mul_comm, le-div_iff_mul-le, div-lt_iff_lt-mul}
 use borrow.Author.Tests.{le-leb, lt-leb}
-use borrow.Author.Rules.{rules}
 use Rattle.time.specs.Time.{sat_mul}
 use Rattle.time.proofs.sat_mul.Goals as goal
 

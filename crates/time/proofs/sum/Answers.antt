@@ -2,7 +2,6 @@ use native.Mathlib.Omega.{arith}
 use Prim.Native.Nat.{◌+◌, ◌≤◌, ◌<◌}
 use borrow.Author.Tests.{le-leb, lt-leb}
 use Rattle.time.specs.Time.{sum_of}
-use borrow.Author.Rules.{rules}
 use Rattle.time.proofs.sum.Goals as goal
 
 pub returns-then-b-a : goal.returns-then-b-a

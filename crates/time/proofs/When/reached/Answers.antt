@@ -1,4 +1,3 @@
-use borrow.Author.Rules.{rules}
 use Rattle.time.proofs.When.reached.Goals as goal
 
 pub returns-then-self : goal.returns-then-self
