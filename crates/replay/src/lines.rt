@@ -19,7 +19,14 @@ const CFG: usize = 2;
 const PROFILE: usize = 3;
 
 // Writes a line and its answers, unless it is an answer itself.
-pub fn respond(rt: &(impl Print + Eprint), given: &[u8], out: &mut [u8], turn: Turn, kept: &mut [u8], number: u64) -> Turn {
+pub fn respond(
+    rt: &(impl Print + Eprint),
+    given: &[u8],
+    out: &mut [u8],
+    turn: Turn,
+    kept: &mut [u8],
+    number: u64,
+) -> Turn {
     let n = text_lines::line_end(given);
     text_lines::progress(rt, number);
     let next = answer(rt, &given[..n], out, turn, kept, number);
@@ -34,7 +41,14 @@ fn turned(step: Step, link: Link) -> Turn {
     }
 }
 
-fn answer(rt: &(impl Print + Eprint), line: &[u8], out: &mut [u8], turn: Turn, kept: &mut [u8], number: u64) -> Turn {
+fn answer(
+    rt: &(impl Print + Eprint),
+    line: &[u8],
+    out: &mut [u8],
+    turn: Turn,
+    kept: &mut [u8],
+    number: u64,
+) -> Turn {
     if is_answer(line) {
         return turn;
     }
@@ -114,7 +128,15 @@ fn begin(
     turned(reading::begin(rt, line, out, step, closed, run), link)
 }
 
-fn cfg(rt: &(impl Print + Eprint), line: &[u8], out: &mut [u8], step: Step, link: Link, number: u64, scan: Scan) -> Turn {
+fn cfg(
+    rt: &(impl Print + Eprint),
+    line: &[u8],
+    out: &mut [u8],
+    step: Step,
+    link: Link,
+    number: u64,
+    scan: Scan,
+) -> Turn {
     let mut v = [0u64; places::SETTINGS];
     let next = reading::cfg(rt, line, out, step, number, scan, &mut v);
     let read = text_records::config_of(&v);
@@ -125,7 +147,15 @@ fn cfg(rt: &(impl Print + Eprint), line: &[u8], out: &mut [u8], step: Step, link
     turned(next, changed)
 }
 
-fn profile(rt: &(impl Print + Eprint), line: &[u8], out: &mut [u8], step: Step, link: Link, number: u64, scan: Scan) -> Turn {
+fn profile(
+    rt: &(impl Print + Eprint),
+    line: &[u8],
+    out: &mut [u8],
+    step: Step,
+    link: Link,
+    number: u64,
+    scan: Scan,
+) -> Turn {
     let mut v = [0u64; places::PROFILE];
     let next = reading::profile(rt, line, out, step, number, scan, &mut v);
     let read = text_records::profile_of(&v);
@@ -136,7 +166,15 @@ fn profile(rt: &(impl Print + Eprint), line: &[u8], out: &mut [u8], step: Step, 
     turned(next, changed)
 }
 
-fn state(rt: &(impl Print + Eprint), line: &[u8], out: &mut [u8], step: Step, link: Link, number: u64, scan: Scan) -> Turn {
+fn state(
+    rt: &(impl Print + Eprint),
+    line: &[u8],
+    out: &mut [u8],
+    step: Step,
+    link: Link,
+    number: u64,
+    scan: Scan,
+) -> Turn {
     let mut v = [0u64; ROW];
     let next = reading::state(rt, line, out, step, number, scan, &mut v);
     let read = text_records::state_of(&v);
@@ -147,7 +185,14 @@ fn state(rt: &(impl Print + Eprint), line: &[u8], out: &mut [u8], step: Step, li
     turned(next, changed)
 }
 
-fn call(rt: &(impl Print + Eprint), line: &[u8], out: &mut [u8], step: Step, link: Link, number: u64) -> Turn {
+fn call(
+    rt: &(impl Print + Eprint),
+    line: &[u8],
+    out: &mut [u8],
+    step: Step,
+    link: Link,
+    number: u64,
+) -> Turn {
     let word = text_words::call(line);
     let scan = word.scan;
     let index = word.index;
@@ -196,7 +241,15 @@ fn settle(step: Step, link: Link, call: u8, told: Told) -> Turn {
 }
 
 // `frame`, whose buffers have at most 65,536 bytes each.
-fn frame(rt: &(impl Print + Eprint), line: &[u8], out: &mut [u8], step: Step, link: Link, number: u64, scan: Scan) -> Turn {
+fn frame(
+    rt: &(impl Print + Eprint),
+    line: &[u8],
+    out: &mut [u8],
+    step: Step,
+    link: Link,
+    number: u64,
+    scan: Scan,
+) -> Turn {
     let mut a = [0u64; ARGS];
     let mut target = [0u8; 65536];
     let mut source = [0u8; 65536];
@@ -207,11 +260,29 @@ fn frame(rt: &(impl Print + Eprint), line: &[u8], out: &mut [u8], step: Step, li
     if next.stop {
         return turned(next, link);
     }
-    answer_from(rt, out, next, link, &a, &source, from.len, &mut target, to.len)
+    answer_from(
+        rt,
+        out,
+        next,
+        link,
+        &a,
+        &source,
+        from.len,
+        &mut target,
+        to.len,
+    )
 }
 
 // The line of a frame, with the scan past its buffers.
-fn framed(rt: &(impl Print + Eprint), line: &[u8], out: &mut [u8], step: Step, number: u64, read: Reading, past: Scan) -> Step {
+fn framed(
+    rt: &(impl Print + Eprint),
+    line: &[u8],
+    out: &mut [u8],
+    step: Step,
+    number: u64,
+    read: Reading,
+    past: Scan,
+) -> Step {
     if past.fault != text::NONE {
         return reading::stopped(rt, line, out, step, number, with_scan(read, past));
     }
@@ -301,7 +372,14 @@ fn write_marked(rt: &impl Print, line: &[u8], out: &mut [u8], o: Output) -> Outp
 }
 
 // The end of the input, or what keeps the next line from being read.
-pub fn end(rt: &(impl Print + Eprint), out: &mut [u8], turn: Turn, kept: &[u8], number: u64, input: Input) {
+pub fn end(
+    rt: &(impl Print + Eprint),
+    out: &mut [u8],
+    turn: Turn,
+    kept: &[u8],
+    number: u64,
+    input: Input,
+) {
     let step = turn.step;
     let link = turn.link;
     if text_lines::tell_no_line(rt, number, input) {

@@ -2,6 +2,7 @@
 // line that begins with `= `, and writes every other line, and behind each call the link's own
 // answer. A line that does not read is told on standard error, and the program stops there.
 #![tactic(auto)]
+
 mod blocks;
 mod lines;
 mod reading;
@@ -45,7 +46,13 @@ fn named(rt: &impl Runtime, i: usize, buf: &mut [u8], out: &mut [u8], kept: &mut
     }
 }
 
-fn filter(rt: &(impl Print + Eprint), from: &mut impl Read, buf: &mut [u8], out: &mut [u8], kept: &mut [u8]) {
+fn filter(
+    rt: &(impl Print + Eprint),
+    from: &mut impl Read,
+    buf: &mut [u8],
+    out: &mut [u8],
+    kept: &mut [u8],
+) {
     let mut input = Input::new();
     let mut turn = Turn {
         step: blocks::none(),

@@ -34,7 +34,14 @@ pub fn checked(rt: &impl Eprint, step: Step, number: u64) -> Step {
 }
 
 // Writes out what was answered, and tells what is wrong with the field at which a scan stopped.
-pub fn stopped(rt: &(impl Print + Eprint), line: &[u8], out: &[u8], step: Step, number: u64, read: Reading) -> Step {
+pub fn stopped(
+    rt: &(impl Print + Eprint),
+    line: &[u8],
+    out: &[u8],
+    step: Step,
+    number: u64,
+    read: Reading,
+) -> Step {
     finish(rt, out, step.o, number);
     let scan = read.scan;
     if scan.fault == text_hex::NOT_HEX {
@@ -46,7 +53,13 @@ pub fn stopped(rt: &(impl Print + Eprint), line: &[u8], out: &[u8], step: Step, 
 }
 
 // Writes out what was answered, and tells why no more is.
-fn stopped_by(rt: &(impl Print + Eprint), out: &[u8], step: Step, number: u64, words: &[u8]) -> Step {
+fn stopped_by(
+    rt: &(impl Print + Eprint),
+    out: &[u8],
+    step: Step,
+    number: u64,
+    words: &[u8],
+) -> Step {
     finish(rt, out, step.o, number);
     text_lines::tell(rt, number, words);
     halted(step)
@@ -65,7 +78,14 @@ pub fn finish(rt: &(impl Print + Eprint), out: &[u8], o: Output, number: u64) {
 }
 
 // `vector N` and `run N`. `closed` is the output with the end of the block before.
-pub fn begin(rt: &impl Print, line: &[u8], out: &mut [u8], step: Step, closed: Output, run: bool) -> Step {
+pub fn begin(
+    rt: &impl Print,
+    line: &[u8],
+    out: &mut [u8],
+    step: Step,
+    closed: Output,
+    run: bool,
+) -> Step {
     let o = copied(rt, line, out, closed);
     let block = blocks::blank(run);
     let mut next = step;
@@ -157,7 +177,14 @@ pub fn call(
 }
 
 // Writes the line of a call, unless a line that it needs does not stand before it.
-pub fn called(rt: &(impl Print + Eprint), line: &[u8], out: &mut [u8], step: Step, number: u64, call: u8) -> Step {
+pub fn called(
+    rt: &(impl Print + Eprint),
+    line: &[u8],
+    out: &mut [u8],
+    step: Step,
+    number: u64,
+    call: u8,
+) -> Step {
     if !blocks::ready(step.block, call) {
         return early(rt, out, step, number);
     }
@@ -184,7 +211,13 @@ fn early(rt: &(impl Print + Eprint), out: &[u8], step: Step, number: u64) -> Ste
 }
 
 // The first word is none that a list can have.
-pub fn first_word(rt: &(impl Print + Eprint), line: &[u8], out: &[u8], step: Step, number: u64) -> Step {
+pub fn first_word(
+    rt: &(impl Print + Eprint),
+    line: &[u8],
+    out: &[u8],
+    step: Step,
+    number: u64,
+) -> Step {
     let mut words = [0u8; 256];
     let own = text_lines::put(&mut words, 0, b"vector run cfg profile state");
     let n = text_words::put_calls(&mut words, own);

@@ -1,5 +1,6 @@
 // Calls answered in the replay format. No public function has a `requires`.
 #![tactic(auto)]
+
 use answer::Answer;
 use call_read::{Shown, Woke};
 use state::State;
@@ -19,7 +20,15 @@ pub struct Told {
 
 // Every call but `frame`. In a run the next call gets the state that this one leaves; else each call
 // gets the block's own, and what it leaves is a line of its answer.
-pub fn answer(rt: &impl Print, out: &mut [u8], o: Output, link: Link, run: bool, call: u8, a: &[u64; ARGS]) -> Told {
+pub fn answer(
+    rt: &impl Print,
+    out: &mut [u8],
+    o: Output,
+    link: Link,
+    run: bool,
+    call: u8,
+    a: &[u64; ARGS],
+) -> Told {
     let source = [0u8; 1];
     let mut target = [0u8; 1];
     let state = link.state;
@@ -91,7 +100,13 @@ fn write_told(
     }
 }
 
-fn write_events(rt: &impl Print, out: &mut [u8], o: Output, log: &[u64; 768], len: usize) -> Output {
+fn write_events(
+    rt: &impl Print,
+    out: &mut [u8],
+    o: Output,
+    log: &[u64; 768],
+    len: usize,
+) -> Output {
     let mut written = o;
     let mut i: usize = 0;
     while i < len {
@@ -112,7 +127,14 @@ fn write_buffer(rt: &impl Print, out: &mut [u8], o: Output, target: &[u8]) -> Ou
     shown.bytes(rt, out, b"\n")
 }
 
-fn leave(rt: &impl Print, out: &mut [u8], o: Output, run: bool, before: State, after: State) -> Told {
+fn leave(
+    rt: &impl Print,
+    out: &mut [u8],
+    o: Output,
+    run: bool,
+    before: State,
+    after: State,
+) -> Told {
     if run {
         return Told {
             o: o,

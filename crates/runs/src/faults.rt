@@ -5,7 +5,13 @@ use text::Scan;
 use text_form::Reading;
 
 // The first word is none that a list can have.
-pub fn first_word(rt: &(impl Print + Eprint), line: &[u8], out: &[u8], step: Step, number: u64) -> Step {
+pub fn first_word(
+    rt: &(impl Print + Eprint),
+    line: &[u8],
+    out: &[u8],
+    step: Step,
+    number: u64,
+) -> Step {
     let mut words = [0u8; 256];
     let calls = text_words::put_calls(&mut words, 0);
     let n = text_lines::put(
@@ -25,7 +31,15 @@ fn start() -> Scan {
     }
 }
 
-fn tell_choice(rt: &impl Eprint, number: u64, line: &[u8], scan: Scan, what: &[u8], words: &[u8], n: usize) {
+fn tell_choice(
+    rt: &impl Eprint,
+    number: u64,
+    line: &[u8],
+    scan: Scan,
+    what: &[u8],
+    words: &[u8],
+    n: usize,
+) {
     if words.len() < n {
         return;
     }
@@ -33,12 +47,26 @@ fn tell_choice(rt: &impl Eprint, number: u64, line: &[u8], scan: Scan, what: &[u
 }
 
 // A field at which a line stopped.
-pub fn field(rt: &(impl Print + Eprint), line: &[u8], out: &[u8], step: Step, number: u64, part: u8, read: Reading) -> Step {
+pub fn field(
+    rt: &(impl Print + Eprint),
+    line: &[u8],
+    out: &[u8],
+    step: Step,
+    number: u64,
+    part: u8,
+    read: Reading,
+) -> Step {
     steps::finish(rt, out, step.o, number);
     let scan = read.scan;
     let fault = scan.fault;
     match fault {
-        text_form::TWICE => text_lines::tell_about(rt, number, line, scan, b"names an argument again."),
+        text_form::TWICE => text_lines::tell_about(
+            rt,
+            number,
+            line,
+            scan,
+            b"names an argument again.",
+        ),
         text::NOT_WORD => name(rt, number, line, part, scan),
         text::MISSING => missing(rt, number, line, scan),
         _ => text_lines::tell_most(rt, number, line, scan, read.most),
@@ -47,7 +75,14 @@ pub fn field(rt: &(impl Print + Eprint), line: &[u8], out: &[u8], step: Step, nu
 }
 
 // The same where the line names no arguments.
-pub fn value(rt: &(impl Print + Eprint), line: &[u8], out: &[u8], step: Step, number: u64, read: Reading) -> Step {
+pub fn value(
+    rt: &(impl Print + Eprint),
+    line: &[u8],
+    out: &[u8],
+    step: Step,
+    number: u64,
+    read: Reading,
+) -> Step {
     steps::finish(rt, out, step.o, number);
     text_lines::tell_most(rt, number, line, read.scan, read.most);
     steps::halted(step)
@@ -68,7 +103,15 @@ fn name(rt: &impl Eprint, number: u64, line: &[u8], part: u8, scan: Scan) {
     }
 }
 
-fn choice(rt: &impl Eprint, number: u64, line: &[u8], part: u8, scan: Scan, words: &[u8], n: usize) {
+fn choice(
+    rt: &impl Eprint,
+    number: u64,
+    line: &[u8],
+    part: u8,
+    scan: Scan,
+    words: &[u8],
+    n: usize,
+) {
     let mut what = [0u8; 64];
     let end = text_words::put_choice_name(part, &mut what);
     tell_called(rt, number, line, scan, &what, end, words, n);
@@ -109,7 +152,13 @@ fn missing(rt: &impl Eprint, number: u64, line: &[u8], scan: Scan) {
 }
 
 // A line that reads, and that the link there is cannot take.
-pub fn stopped(rt: &(impl Print + Eprint), out: &[u8], step: Step, number: u64, words: &[u8]) -> Step {
+pub fn stopped(
+    rt: &(impl Print + Eprint),
+    out: &[u8],
+    step: Step,
+    number: u64,
+    words: &[u8],
+) -> Step {
     steps::finish(rt, out, step.o, number);
     text_lines::tell(rt, number, words);
     steps::halted(step)

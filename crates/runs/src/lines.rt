@@ -28,13 +28,25 @@ const PENDI: usize = 8;
 
 const PENDR: usize = 9;
 
-pub fn respond(rt: &(impl Print + Eprint), given: &[u8], out: &mut [u8], step: Step, number: u64) -> Step {
+pub fn respond(
+    rt: &(impl Print + Eprint),
+    given: &[u8],
+    out: &mut [u8],
+    step: Step,
+    number: u64,
+) -> Step {
     let n = text_lines::line_end(given);
     text_lines::progress(rt, number);
     steps::checked(rt, read_line(rt, &given[..n], out, step, number), number)
 }
 
-fn read_line(rt: &(impl Print + Eprint), line: &[u8], out: &mut [u8], step: Step, number: u64) -> Step {
+fn read_line(
+    rt: &(impl Print + Eprint),
+    line: &[u8],
+    out: &mut [u8],
+    step: Step,
+    number: u64,
+) -> Step {
     if passed(line) {
         return step;
     }
@@ -58,7 +70,15 @@ fn passed(line: &[u8]) -> bool {
 }
 
 // A line that is no call.
-fn take(rt: &(impl Print + Eprint), line: &[u8], out: &mut [u8], step: Step, number: u64, index: usize, scan: Scan) -> Step {
+fn take(
+    rt: &(impl Print + Eprint),
+    line: &[u8],
+    out: &mut [u8],
+    step: Step,
+    number: u64,
+    index: usize,
+    scan: Scan,
+) -> Step {
     match index {
         SET => set(rt, line, out, step, number, scan),
         PROFILE => profile(rt, line, out, step, number, scan),
@@ -98,7 +118,14 @@ fn record_of(index: usize) -> u8 {
     }
 }
 
-fn set(rt: &(impl Print + Eprint), line: &[u8], out: &[u8], step: Step, number: u64, scan: Scan) -> Step {
+fn set(
+    rt: &(impl Print + Eprint),
+    line: &[u8],
+    out: &[u8],
+    step: Step,
+    number: u64,
+    scan: Scan,
+) -> Step {
     let mut v = [0u64; text_form::places::SETTINGS];
     let mut link = step.link;
     text_records::keep_config(&mut v, link.cfg);
@@ -113,7 +140,14 @@ fn set(rt: &(impl Print + Eprint), line: &[u8], out: &[u8], step: Step, number: 
     next
 }
 
-fn profile(rt: &(impl Print + Eprint), line: &[u8], out: &[u8], step: Step, number: u64, scan: Scan) -> Step {
+fn profile(
+    rt: &(impl Print + Eprint),
+    line: &[u8],
+    out: &[u8],
+    step: Step,
+    number: u64,
+    scan: Scan,
+) -> Step {
     let mut v = [0u64; text_form::places::PROFILE];
     let mut link = step.link;
     text_records::keep_profile(&mut v, link.profile);
@@ -152,7 +186,14 @@ fn missing(scan: Scan) -> Scan {
     }
 }
 
-fn explain(rt: &(impl Print + Eprint), line: &[u8], out: &[u8], step: Step, number: u64, scan: Scan) -> Step {
+fn explain(
+    rt: &(impl Print + Eprint),
+    line: &[u8],
+    out: &[u8],
+    step: Step,
+    number: u64,
+    scan: Scan,
+) -> Step {
     let mut v = [0u64; 1];
     let read = text_form::read_fields(line, scan, text_words::EXPLAIN, &mut v);
     if read.scan.fault != text::NONE {
@@ -164,7 +205,14 @@ fn explain(rt: &(impl Print + Eprint), line: &[u8], out: &[u8], step: Step, numb
 }
 
 // A state in the replay format stands for a link.
-fn read_state(rt: &(impl Print + Eprint), line: &[u8], out: &[u8], step: Step, number: u64, scan: Scan) -> Step {
+fn read_state(
+    rt: &(impl Print + Eprint),
+    line: &[u8],
+    out: &[u8],
+    step: Step,
+    number: u64,
+    scan: Scan,
+) -> Step {
     let mut v = [0u64; ROW];
     let read = text_form::read_state(line, scan, &mut v);
     if read.scan.fault != text::NONE {
@@ -175,7 +223,14 @@ fn read_state(rt: &(impl Print + Eprint), line: &[u8], out: &[u8], step: Step, n
 }
 
 // The state as a line that this program and `replay` read.
-fn show(rt: &(impl Print + Eprint), line: &[u8], out: &mut [u8], step: Step, number: u64, scan: Scan) -> Step {
+fn show(
+    rt: &(impl Print + Eprint),
+    line: &[u8],
+    out: &mut [u8],
+    step: Step,
+    number: u64,
+    scan: Scan,
+) -> Step {
     let past = scan.end(line);
     if past.fault != text::NONE {
         let read = Reading {
@@ -213,7 +268,14 @@ fn candidate_at(held: usize) -> usize {
 }
 
 // A current epoch that there is not has no fields to change.
-fn change_current(rt: &(impl Print + Eprint), line: &[u8], out: &[u8], step: Step, number: u64, scan: Scan) -> Step {
+fn change_current(
+    rt: &(impl Print + Eprint),
+    line: &[u8],
+    out: &[u8],
+    step: Step,
+    number: u64,
+    scan: Scan,
+) -> Step {
     let link = step.link;
     let state = link.state;
     let cur = state.cur;
@@ -224,7 +286,15 @@ fn change_current(rt: &(impl Print + Eprint), line: &[u8], out: &[u8], step: Ste
 }
 
 // `memory NAME N ..` and `current NAME N ..`: the named fields are changed.
-fn change(rt: &(impl Print + Eprint), line: &[u8], out: &[u8], step: Step, number: u64, part: u8, scan: Scan) -> Step {
+fn change(
+    rt: &(impl Print + Eprint),
+    line: &[u8],
+    out: &[u8],
+    step: Step,
+    number: u64,
+    part: u8,
+    scan: Scan,
+) -> Step {
     let mut v = [0u64; ROW];
     let link = step.link;
     text_records::keep(&mut v, link.state);
@@ -242,7 +312,15 @@ fn read_state_part(line: &[u8], scan: Scan, part: u8, v: &mut [u64; ROW]) -> Rea
 
 // `drained T ..` and the like: a record as it is made at T, with the named fields changed. What a
 // record is made like may depend on a field that is named, so the line is read twice.
-fn put_record(rt: &(impl Print + Eprint), line: &[u8], out: &[u8], step: Step, number: u64, part: u8, scan: Scan) -> Step {
+fn put_record(
+    rt: &(impl Print + Eprint),
+    line: &[u8],
+    out: &[u8],
+    step: Step,
+    number: u64,
+    part: u8,
+    scan: Scan,
+) -> Step {
     let time = scan.number(line, time::END);
     let past = time.scan;
     if past.fault != text::NONE {
@@ -334,7 +412,13 @@ fn made(step: Step, part: u8, now: u64, wait: u8, evidenced: bool) -> State {
     }
 }
 
-fn read_call(rt: &(impl Print + Eprint), line: &[u8], out: &mut [u8], step: Step, number: u64) -> Step {
+fn read_call(
+    rt: &(impl Print + Eprint),
+    line: &[u8],
+    out: &mut [u8],
+    step: Step,
+    number: u64,
+) -> Step {
     let word = text_words::call(line);
     let scan = word.scan;
     if word.index == text_words::CALLS as usize {
@@ -349,7 +433,15 @@ fn call_of(index: usize) -> u8 {
 
 // A call: what it does not name has its default, and a `wake` without an instant has that of the call
 // before.
-fn read_named(rt: &(impl Print + Eprint), line: &[u8], out: &mut [u8], step: Step, number: u64, call: u8, scan: Scan) -> Step {
+fn read_named(
+    rt: &(impl Print + Eprint),
+    line: &[u8],
+    out: &mut [u8],
+    step: Step,
+    number: u64,
+    call: u8,
+    scan: Scan,
+) -> Step {
     let mut a = [0u64; ARGS];
     let mut seen = [0u64; NAMES];
     let read = read_arguments(line, scan, call, step, &mut a, &mut seen);
@@ -421,7 +513,14 @@ fn pending_tag(s: State) -> u64 {
     peers.tag
 }
 
-fn answer(rt: &(impl Print + Eprint), out: &mut [u8], step: Step, number: u64, call: u8, a: &[u64; ARGS]) -> Step {
+fn answer(
+    rt: &(impl Print + Eprint),
+    out: &mut [u8],
+    step: Step,
+    number: u64,
+    call: u8,
+    a: &[u64; ARGS],
+) -> Step {
     let next = counted(rt, step, number, call, a[place::NOW]);
     let link = next.link;
     let told = runs_telling::answer(rt, out, next.o, link, steps::head(next), call, a);

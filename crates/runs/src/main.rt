@@ -2,6 +2,7 @@
 // link tells. docs/RUNS.md has the lines, the arguments and their defaults. A line that does not
 // read is told on standard error, and the program stops there.
 #![tactic(auto)]
+
 mod faults;
 mod lines;
 mod steps;

@@ -1,6 +1,7 @@
 // Records of a state as the published module makes them at an instant, for lists that begin in the
 // middle of a link's life. No public function has a `requires`.
 #![tactic(auto)]
+
 use candidates::Candidates;
 use cycle::{PendI, PendR};
 use epoch::{Drain, Epoch, Final, Ids, Index, MayLadder};

@@ -1,6 +1,7 @@
 // Calls on a link, and what it tells: call number, instant, name and two columns, and the words behind
 // them where they are asked for. No public function has a `requires`.
 #![tactic(auto)]
+
 use answer::Answer;
 use call_read::{Shown, Woke};
 use state::State;
@@ -44,14 +45,29 @@ pub fn answer(
 }
 
 // A call that is lent no buffers.
-fn other(rt: &impl Print, out: &mut [u8], o: Output, link: Link, head: Head, call: u8, a: &[u64; ARGS]) -> Told {
+fn other(
+    rt: &impl Print,
+    out: &mut [u8],
+    o: Output,
+    link: Link,
+    head: Head,
+    call: u8,
+    a: &[u64; ARGS],
+) -> Told {
     let source = [0u8; 1];
     let mut target = [0u8; 1];
     hand(rt, out, o, link, head, call, a, &source, &mut target)
 }
 
 // Both buffers are filled with 0; their lengths are arguments.
-fn frame(rt: &impl Print, out: &mut [u8], o: Output, link: Link, head: Head, a: &[u64; ARGS]) -> Told {
+fn frame(
+    rt: &impl Print,
+    out: &mut [u8],
+    o: Output,
+    link: Link,
+    head: Head,
+    a: &[u64; ARGS],
+) -> Told {
     let source = [0u8; 65536];
     let mut target = [0u8; 65536];
     let n = text_args::size(a, text_calls::place::FRAME_SOURCE);
@@ -122,7 +138,15 @@ fn hand(
     tell(rt, out, o, head, &log, r, call)
 }
 
-fn tell(rt: &impl Print, out: &mut [u8], o: Output, head: Head, log: &[u64; 768], r: Answer, call: u8) -> Told {
+fn tell(
+    rt: &impl Print,
+    out: &mut [u8],
+    o: Output,
+    head: Head,
+    log: &[u64; 768],
+    r: Answer,
+    call: u8,
+) -> Told {
     let told = write_answer(rt, out, o, head, log, r.len, r.number, r.place);
     left(told, r, call)
 }
@@ -158,7 +182,14 @@ fn write_answer(
 }
 
 // A line for each of the first `len` events of a log.
-fn write_events(rt: &impl Print, out: &mut [u8], o: Output, head: Head, log: &[u64; 768], len: usize) -> Output {
+fn write_events(
+    rt: &impl Print,
+    out: &mut [u8],
+    o: Output,
+    head: Head,
+    log: &[u64; 768],
+    len: usize,
+) -> Output {
     let mut written = o;
     let mut i: usize = 0;
     while i < len {
@@ -168,14 +199,28 @@ fn write_events(rt: &impl Print, out: &mut [u8], o: Output, head: Head, log: &[u
     written
 }
 
-fn write_event(rt: &impl Print, out: &mut [u8], o: Output, head: Head, log: &[u64; 768], i: usize) -> Output {
+fn write_event(
+    rt: &impl Print,
+    out: &mut [u8],
+    o: Output,
+    head: Head,
+    log: &[u64; 768],
+    i: usize,
+) -> Output {
     let begun = begin(rt, out, o, head, b" ");
     let told = text_events::write_explained(rt, out, begun, log, i, head.explain);
     told.bytes(rt, out, b"\n")
 }
 
 // The number of a refusal and the place of its check.
-fn refused(rt: &impl Print, out: &mut [u8], o: Output, head: Head, number: u8, place: u8) -> Output {
+fn refused(
+    rt: &impl Print,
+    out: &mut [u8],
+    o: Output,
+    head: Head,
+    number: u8,
+    place: u8,
+) -> Output {
     let begun = begin(rt, out, o, head, b" refused");
     let columns = write_columns(rt, out, begun, number as u64, place as u64);
     if head.explain {
@@ -219,7 +264,14 @@ fn write_wake(rt: &impl Print, out: &mut [u8], o: Output, head: Head, r: Woke) -
 }
 
 // The link line: current tag, cycle kind, wake and quiet time.
-fn status(rt: &impl Print, out: &mut [u8], o: Output, link: Link, head: Head, a: &[u64; ARGS]) -> Told {
+fn status(
+    rt: &impl Print,
+    out: &mut [u8],
+    o: Output,
+    link: Link,
+    head: Head,
+    a: &[u64; ARGS],
+) -> Told {
     let r = text_calls::status(link, a);
     unchanged(write_status(rt, out, o, head, r), link)
 }
