@@ -7,7 +7,7 @@ use Rattle.poll_close.specs.Closing.{sealing}
 use Rattle.frame_slots.specs.declared.FrameProof.{FrameProof}
 use Rattle.answer.specs.Outcome.{Outcome}
 use Rattle.frame.specs.Frames.{frame_answer}
-use Rattle.law_prompts.specs.Frames.{KeepsPrompts, frame-holds, staying, staying-fits}
+use Rattle.law_prompts.specs.Frames.{FrameKeepsPrompts, frame-holds, staying, staying-fits}
 
 module _ (s : State) (cfg : Config) (profile : Profile) (time : ℕ) (workers : Bool) (spread : ℤ) (q : FrameProof) (body : ℕ) (source target : List ℕ) where
   abbrev answer : Outcome
@@ -18,5 +18,5 @@ module _ (s : State) (cfg : Config) (profile : Profile) (time : ℕ) (workers : 
   unfolding sealing
   frame_keeps_prompts = frame-holds staying staying-fits s cfg profile time workers spread q body source target
 
-  pub keeps_prompts : KeepsPrompts s cfg profile time workers spread q body source target
+  pub keeps_prompts : FrameKeepsPrompts s cfg profile time workers spread q body source target
   keeps_prompts = record { frame_keeps_prompts = frame_keeps_prompts }

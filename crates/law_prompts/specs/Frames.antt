@@ -157,5 +157,5 @@ module _ (s : State) (cfg : Config) (profile : Profile) (time : ℕ) (workers : 
   answer = frame_answer s cfg profile time workers spread q body source target
 
   -- to withdraw, by the state that a frame leaves, leaves its events as they are
-  pub record KeepsPrompts : Type 0 where
+  pub record FrameKeepsPrompts : Type 0 where
     pub frame_keeps_prompts : sealing answer.state answer.out ≡ answer.out
