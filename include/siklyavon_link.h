@@ -40,11 +40,11 @@
  * comes from one. A resend that is held back tells nothing, and its number is lost.
  *
  * Stack. What one call takes, in bytes, its arguments and its answer included: the most of many states,
- * measured with a painted stack on an AMD EPYC, the caller built by gcc 12.2 -O2 (tools/stack measures
+ * measured with a painted stack on an Intel Xeon, the caller built by gcc 12.2 -O2 (tools/stack measures
  * again).
- *   poll 95440     frame 70352    reply 45632    sent 23200     status 11648
- *   wake 11552     open 11056     quiet 928      settings 208
- *   worker 65072   delegated and undelegated 33792   path 23056     data_sent 22864 */
+ *   poll 152624    frame 99440    reply 63984    sent 28992     status 11712
+ *   wake 11536     open 17024     quiet 912      settings 208
+ *   worker 76400   delegated and undelegated 39408   path 34000     data_sent 28384 */
 #ifndef SIKLYAVON_LINK_H
 #define SIKLYAVON_LINK_H
 

@@ -252,7 +252,7 @@ pub fn siklyavon_wake(s: State, cfg: Config, p: Profile) -> Woke
 
 // The link line. Its quiet time is the time since the current epoch was heard or started, whichever is
 // later: `QuietLine` says what each call does to it.
-#[tactic(auto, using(law_status::specs::Line::quiet_line))]
+#[tactic(auto, using(law_status::proofs::Line::quiet_line))]
 pub fn siklyavon_status(s: State, cfg: Config, p: Profile, time: u64) -> Shown
     ensures status { result ≡ status_of s cfg p time }
     ensures exact { StatusExact s cfg p time (status_of s cfg p time) }
