@@ -13,15 +13,20 @@ use std::rt::Runtime;
 use text_lines::Input;
 
 fn main(rt: HostRuntime) {
-    let mut buf = [0u8; 524288];
+    let mut buf = room();
     let mut out = io::large_buffer();
-    let mut kept = [0u8; 524288];
+    let mut kept = room();
     let n = text_source::count(&rt);
     if n == 0 {
         filter(&rt, &mut rt.stdin(), &mut buf, &mut out, &mut kept);
     } else {
         each(&rt, n, &mut buf, &mut out, &mut kept);
     }
+}
+
+// Room for the longest line, in a function of its own, since a proof of `main` would spell every byte.
+fn room() -> [u8; 524288] {
+    [0u8; 524288]
 }
 
 // The lists that the arguments name, one after another.
