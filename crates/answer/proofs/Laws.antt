@@ -19,7 +19,7 @@ use Rattle.events.proofs.Laws.{at_len, at_words}
 use Rattle.events.proofs.Laws.{stored_at, stored-len, stored-behind, same-on, held-taken, held-empty, answer-len, held-answer}
 use Rattle.events.specs.Withdraw.{words_stay, stays, sifted, withdrawn}
 use Rattle.state.specs.declared.State.{State}
-use Rattle.refusal.specs.declared.Refused.{Refused}
+use Rattle.refusal.specs.Refused.{Refused}
 use Rattle.answer.specs.Outcome.{Outcome, refused_of, sent_back, outcome_by}
 use Rattle.answer.specs.Written.{words_in, over, Written}
 

@@ -1,7 +1,7 @@
 -- What the code of every call promises: the answer, field by field, and the words of the log.
 use Rattle.std.specs.Prelude.{ℕ, ◌≡◌, List}
 use Rattle.state.specs.declared.State.{State}
-use Rattle.refusal.specs.declared.Refused.{Refused}
+use Rattle.refusal.specs.Refused.{Refused}
 use Rattle.answer.specs.declared.Answer.{Answer}
 use Rattle.answer.specs.Outcome.{Outcome}
 use Rattle.answer.specs.Written.{Written}

@@ -3,7 +3,7 @@ use Rattle.std.specs.Prelude.{ℕ, List, [], eqb}
 use Rattle.time.specs.Pick.{pick}
 use Rattle.events.specs.Events.{Event}
 use Rattle.state.specs.declared.State.{State}
-use Rattle.refusal.specs.declared.Refused.{Refused}
+use Rattle.refusal.specs.Refused.{Refused}
 
 pub record Outcome : Type 0 where
   -- "A call is accepted when no number sends it back": 0, or the number

@@ -2,14 +2,16 @@
 // that hands a state back ends here.
 #![tactic(auto)]
 
-ghost use Rattle.std.specs.Prelude.{◌≡◌};
+ghost use Rattle.std.specs.Prelude.{◌≡◌, Err};
+ghost use Rattle.refusal.specs.Refused.{refused_of};
 ghost use Rattle.answer.specs.Answers.{back_with, taken_with};
 
-use refusal::Refused;
+use refusal::Refusal;
 use state::State;
 
 // The refusal's number, 0 where there is none, with the check's place in 1; the state; how many
-// events the log has; and how many items the passes of a poll listed.
+// events the log has; and how many items the passes of a poll listed. It crosses to C, where a number
+// stands for the refusal.
 #[repr(C)]
 #[derive(Clone, Copy)]
 pub struct Answer {
@@ -21,12 +23,12 @@ pub struct Answer {
 }
 
 // A call that is sent back: the number alone, with the state that it was given.
-pub fn sent_back(back: Refused, s: State) -> Answer
-    ensures { result ≡ back_with back s }
+pub fn sent_back(back: Refusal, s: State) -> Answer
+    ensures { result ≡ back_with (refused_of (Err back)) s }
 {
     Answer {
-        number: back.number,
-        place: back.place,
+        number: back.number(),
+        place: back.place(),
         state: s,
         len: 0,
         count: 0,
@@ -41,7 +43,7 @@ pub fn finish(s: State, len: usize, count: usize) -> Answer
         number: 0,
         place: 0,
         state: s,
-        len: len,
-        count: count,
+        len,
+        count,
     }
 }

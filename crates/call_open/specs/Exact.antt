@@ -1,7 +1,6 @@
 -- The numbers of `open` in document 01's words: it is accepted exactly where the tests that concern it pass,
 -- and each number is given exactly where its sentence is the first to hold.
 use Rattle.std.specs.Prelude.{◌↔◌, ◌≡◌, [], ℤ}
-use Rattle.std.proofs.Math.Logic.Iff
 use Rattle.settings.specs.declared.Config.{Config}
 use Rattle.numbers.specs.Numbers.{refused_draw}
 use Rattle.state.specs.declared.Profile.{Profile}

@@ -2,27 +2,31 @@
 #![tactic(auto)]
 
 ghost use Rattle.std.specs.Prelude.{◌≡◌};
-ghost use Rattle.events.specs.Log.{Appends};
-ghost use Rattle.retire.specs.Retire.{only};
+ghost use Rattle.time.specs.Time.{at as at_of};
 ghost use Rattle.numbers.specs.Numbers.{purpose_current};
 ghost use Rattle.events.specs.Events.{Bind, Prompt, no_rungs};
-ghost use Rattle.time.specs.Time.{at as at_of};
-ghost use Rattle.call_open.specs.Blank.{no_ladder, no_final, no_repeats, no_epoch, no_current, no_drain, no_attempt, no_pend_i, no_pend_r, idle as idle_of, no_candidates};
-ghost use Rattle.call_open.specs.Open.{new_memory, first_epoch, alone as alone_of, fresh_state, blank_state, install_out, open_of};
+ghost use Rattle.events.specs.Told.{Tells};
+ghost use Rattle.retire.specs.Retire.{only};
 ghost use Rattle.answer.specs.Answers.{Answers};
+ghost use Rattle.call_open.specs.Blank.{no_ladder, no_final, no_repeats, no_epoch, no_current, no_drain, no_attempt, no_pend_i, no_pend_r, idle as idle_of, no_candidates};
+ghost use Rattle.call_open.specs.Open.{new_memory, first_epoch, alone as alone_of, blank_state, install_out, open_of};
 ghost use Rattle.call_open.specs.Exact.{OpenExact};
 
 use answer::Answer;
 use candidates::Candidates;
 use cycle::{Attempt, Cycle, PendI, PendR};
 use epoch::{Drain, Epoch, Final, Ids, Index, MayEpoch, MayLadder};
+use events::Log;
 use ladder::{Ladder, Schedule};
+use numbers::evidence::Evidence;
+use numbers::purpose::Purpose;
 use settings::Config;
 use state::{Bit, Memory, Profile, State};
 use time::When;
 
 // What stands behind a flag that is off, and in a case that the cycle is not in: zeros.
 
+#[tactic(auto, unfolding(crate::specs::Blank::no_ladder))]
 fn no_ladder() -> Ladder
     ensures { result ≡ no_ladder }
 {
@@ -33,45 +37,38 @@ fn no_ladder() -> Ladder
     }
 }
 
+#[tactic(auto, unfolding(crate::specs::Blank::no_final))]
 fn no_final() -> Final
     ensures { result ≡ no_final }
 {
-    let l = no_ladder();
     Final {
         some: false,
         msg: 0,
-        ladder: l,
+        ladder: no_ladder(),
     }
 }
 
+#[tactic(auto, unfolding(crate::specs::Blank::no_repeats))]
 fn no_repeats() -> MayLadder
     ensures { result ≡ no_repeats }
 {
-    let l = no_ladder();
     MayLadder {
         some: false,
-        ladder: l,
+        ladder: no_ladder(),
     }
 }
 
+#[tactic(auto, unfolding(crate::specs::Blank::no_epoch))]
 fn no_epoch() -> Epoch
     ensures { result ≡ no_epoch }
 {
-    let fin = no_final();
-    let elicit = no_repeats();
     Epoch {
         tag: 0,
         session: 0,
         sent: 0,
         ids: Ids {
-            lease: Index {
-                some: false,
-                index: 0,
-            },
-            theirs: Index {
-                some: false,
-                index: 0,
-            },
+            lease: Index::NONE,
+            theirs: Index::NONE,
             transport: 0,
         },
         k: false,
@@ -85,95 +82,92 @@ fn no_epoch() -> Epoch
         heard: When::NONE,
         moved: When::NONE,
         assumed: false,
-        fin: fin,
-        elicit: elicit,
+        fin: no_final(),
+        elicit: no_repeats(),
         prompted: When::NONE,
     }
 }
 
+#[tactic(auto, unfolding(crate::specs::Blank::no_current))]
 fn no_current() -> MayEpoch
     ensures { result ≡ no_current }
 {
-    let e = no_epoch();
-    MayEpoch { some: false, ep: e }
+    MayEpoch {
+        some: false,
+        ep: no_epoch(),
+    }
 }
 
+#[tactic(auto, unfolding(crate::specs::Blank::no_drain))]
 fn no_drain() -> Drain
     ensures { result ≡ no_drain }
 {
-    let e = no_epoch();
     Drain {
         some: false,
-        ep: e,
+        ep: no_epoch(),
         deadline: 0,
         evidenced: false,
     }
 }
 
+#[tactic(auto, unfolding(crate::specs::Blank::no_attempt))]
 fn no_attempt() -> Attempt
     ensures { result ≡ no_attempt }
 {
-    let l = no_ladder();
     Attempt {
         hs: 0,
         out: 0,
-        lease: Index {
-            some: false,
-            index: 0,
-        },
+        lease: Index::NONE,
         transport: 0,
         first: 0,
-        ladder: l,
+        ladder: no_ladder(),
         deadline: 0,
         resent: false,
     }
 }
 
+#[tactic(auto, unfolding(crate::specs::Blank::no_pend_i))]
 fn no_pendi() -> PendI
     ensures { result ≡ no_pend_i }
 {
-    let e = no_epoch();
-    let fin = no_final();
-    let probes = no_repeats();
     PendI {
-        ep: e,
+        ep: no_epoch(),
         wait: numbers::wait::HELD,
         deadline: 0,
         restart: false,
-        fin: fin,
-        probes: probes,
+        fin: no_final(),
+        probes: no_repeats(),
         probed: When::NONE,
         stayed: false,
         reverted: false,
     }
 }
 
+#[tactic(auto, unfolding(crate::specs::Blank::no_pend_r))]
 fn no_pendr() -> PendR
     ensures { result ≡ no_pend_r }
 {
-    let e = no_epoch();
     PendR {
-        ep: e,
+        ep: no_epoch(),
         deadline: 0,
         restart: false,
         answer: When::NONE,
     }
 }
 
+#[tactic(auto, unfolding(crate::specs::Blank::idle))]
 fn idle() -> Cycle
     ensures { result ≡ idle_of }
 {
-    let init = no_attempt();
-    let pendi = no_pendi();
-    let pendr = no_pendr();
     Cycle {
         kind: numbers::cycle::IDLE,
-        init: init,
-        pendi: pendi,
-        pendr: pendr,
+        init: no_attempt(),
+        pendi: no_pendi(),
+        pendr: no_pendr(),
     }
 }
 
+#[tactic(auto, unfolding(crate::specs::Blank::no_candidates))]
 fn no_candidates() -> Candidates
     ensures { result ≡ no_candidates }
 {
@@ -194,6 +188,7 @@ fn no_candidates() -> Candidates
 }
 
 // The memory of a new link (`Memory::new`), with the jitter that `install` draws.
+#[tactic(auto, unfolding(crate::specs::Open::new_memory))]
 fn new_memory(time: u64, spread: i32) -> Memory
     ensures { result ≡ new_memory time spread }
 {
@@ -223,121 +218,78 @@ fn new_memory(time: u64, spread: i32) -> Memory
 
 // The epoch of a new link as `install` leaves it: it starts at the instant, and a responder was
 // prompted then.
+#[tactic(auto, unfolding(crate::specs::Open::first_epoch, crate::specs::Blank::no_epoch))]
 fn first_epoch(responder: bool, transport: u64, lease: Index, time: u64) -> Epoch
     ensures { result ≡ first_epoch responder transport lease time }
 {
-    let fin = no_final();
-    let elicit = no_repeats();
-    let prompted = time::whenever(responder, time);
     Epoch {
         tag: 1,
-        session: 0,
-        sent: 0,
         ids: Ids {
-            lease: lease,
-            theirs: Index {
-                some: false,
-                index: 0,
-            },
-            transport: transport,
+            lease,
+            theirs: Index::NONE,
+            transport,
         },
-        k: false,
-        responder: responder,
-        base: When {
-            some: true,
-            at: time,
-        },
+        responder,
+        base: When::of(time),
         started: time,
-        route: When::NONE,
-        ext: 0,
-        delegated: false,
-        floor: When::NONE,
-        heard: When::NONE,
-        moved: When::NONE,
-        assumed: false,
-        fin: fin,
-        elicit: elicit,
-        prompted: prompted,
+        prompted: responder.then_some(time).into(),
+        ..no_epoch()
     }
 }
 
 // A memory and a current epoch or none, with nothing else in the state.
+#[tactic(auto, unfolding(crate::specs::Open::alone))]
 fn alone(mem: Memory, cur: MayEpoch) -> State
     ensures { result ≡ alone_of mem cur }
 {
-    let drain = no_drain();
-    let cycle = idle();
-    let cands = no_candidates();
     State {
-        mem: mem,
-        cur: cur,
-        drain: drain,
-        cycle: cycle,
-        cands: cands,
+        mem,
+        cur,
+        drain: no_drain(),
+        cycle: idle(),
+        cands: no_candidates(),
     }
 }
 
-fn fresh(responder: bool, transport: u64, lease: Index, spread: i32, time: u64) -> State
-    ensures { result ≡ fresh_state responder transport lease spread time }
-{
-    let mem = new_memory(time, spread);
-    let ep = first_epoch(responder, transport, lease, time);
-    alone(mem, MayEpoch { some: true, ep: ep })
-}
-
 // What a refused `open` hands back for a state.
+#[tactic(auto, unfolding(crate::specs::Open::blank_state))]
 fn blank() -> State
     ensures { result ≡ blank_state }
 {
-    let mem = new_memory(0, 0);
-    let cur = no_current();
-    alone(mem, cur)
+    alone(new_memory(0, 0), no_current())
 }
 
 // With a lease, frames for its index come to the current epoch: purpose 2.
-fn bind(ep: Epoch, log: &mut [u64; 768], len: usize) -> usize
-    ensures { Appends (only ep.ids.lease.some (Bind ep.ids.transport ep.ids.lease.index (at_of ep.tag) purpose_current)) len log.old result log.new }
+fn bind(ep: Epoch, log: &mut Log)
+    ensures { Tells (only ep.ids.lease.some (Bind ep.ids.transport ep.ids.lease.index (at_of ep.tag) purpose_current)) log.old log.new }
 {
-    if ep.ids.lease.some {
-        let tag = When {
-            some: true,
-            at: ep.tag,
-        };
-        events::bind(
-            log,
-            len,
-            ep.ids.transport,
-            ep.ids.lease.index,
-            tag,
-            numbers::purpose::CURRENT,
-        )
-    } else {
-        len
+    if let Some(index) = ep.ids.lease.get() {
+        log.bind(ep.ids.transport, index, Some(ep.tag), Purpose::Current);
     }
 }
 
 // A responder speaks first under the new epoch, so that the peer hears that it holds it.
-fn prompt(ep: Epoch, log: &mut [u64; 768], len: usize) -> usize
-    ensures { Appends (only ep.responder (Prompt ep.tag no_rungs)) len log.old result log.new }
+fn prompt(ep: Epoch, log: &mut Log)
+    ensures { Tells (only ep.responder (Prompt ep.tag no_rungs)) log.old log.new }
 {
     if ep.responder {
-        events::prompt(log, len, ep.tag, events::NO_RUNGS)
-    } else {
-        len
+        log.prompt(ep.tag, events::NO_RUNGS);
     }
 }
 
 // What `install` tells: the epoch is that of the link's first handshake.
-fn install(ep: Epoch, workers: bool, log: &mut [u64; 768], len: usize) -> usize
-    ensures { Appends (install_out ep workers) len log.old result log.new }
+#[tactic(auto, using(retire::proofs::Told::tells_then), unfolding(crate::specs::Open::install_out))]
+fn install(ep: Epoch, workers: bool, log: &mut Log)
+    ensures { Tells (install_out ep workers) log.old log.new }
 {
-    let a = bind(ep, log, len);
-    let b = retire::delegate(ep, workers, log, a);
-    let c = events::installed(log, b, ep.tag, ep.responder, numbers::evidence::FIRST);
-    prompt(ep, log, c)
+    bind(ep, log);
+    retire::delegate(ep, workers, log);
+    log.installed(ep.tag, ep.responder, Evidence::First);
+    prompt(ep, log);
 }
 
 // A fresh link at its instant. Refusals 1, 2 and 7; a refused call writes nothing to the log.
+#[tactic(auto, using(crate::proofs::Exact::open_exact))]
 pub fn open(
     cfg: Config,
     p: Profile,
@@ -352,14 +304,12 @@ pub fn open(
     ensures open { Answers (open_of cfg p responder transport lease workers spread time) result log.old log.new }
     ensures exact { OpenExact cfg p spread (open_of cfg p responder transport lease workers spread time) }
 {
-    let _n = lengths::words(log);
-    let back = refusal::before_open(cfg, p, spread);
-    if back.number != 0 {
-        let none = blank();
-        return answer::sent_back(back, none);
+    if let Err(back) = refusal::before_open(cfg, p, spread) {
+        return answer::sent_back(back, blank());
     }
     let ep = first_epoch(responder, transport, lease, time);
-    let n = install(ep, workers, log, 0);
-    let s = fresh(responder, transport, lease, spread, time);
-    answer::finish(s, n, 0)
+    let mut told = Log::new(log);
+    install(ep, workers, &mut told);
+    let s = alone(new_memory(time, spread), MayEpoch { some: true, ep });
+    answer::finish(s, told.len(), 0)
 }

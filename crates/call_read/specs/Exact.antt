@@ -1,7 +1,6 @@
 -- The numbers of the wake and the status, 1 to 6, in document 01's words: each is accepted exactly where the
 -- tests that concern it pass, and each number is given exactly where its sentence is the first to hold.
 use Rattle.std.specs.Prelude.{ℕ, ◌↔◌, ◌≡◌}
-use Rattle.std.proofs.Math.Logic.Iff
 use Rattle.time.specs.Time.{none}
 use Rattle.settings.specs.declared.Config.{Config}
 use Rattle.numbers.specs.Numbers.{cycle_idle}

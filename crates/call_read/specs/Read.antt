@@ -10,7 +10,7 @@ use Rattle.state.specs.declared.State.{State}
 use Rattle.state.specs.declared.Profile.{Profile}
 use Rattle.start.specs.Start.{latest_of}
 use Rattle.wake.specs.Wake.{wake_of}
-use Rattle.refusal.specs.declared.Refused.{Refused}
+use Rattle.refusal.specs.Refused.{Refused}
 use Rattle.refusal.specs.Refusal.{before_link}
 use Rattle.call_read.specs.declared.Woke.{Woke}
 use Rattle.call_read.specs.declared.Shown.{Shown}

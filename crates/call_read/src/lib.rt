@@ -1,17 +1,16 @@
 // What is read of a link: its wake (`next_wake` of machine.rs) and the link line.
 #![tactic(auto)]
 
-ghost use Rattle.std.specs.Prelude.{◌≡◌, ◌-◌};
-ghost use Rattle.time.specs.Time.{whenever};
-ghost use Rattle.start.specs.Start.{latest_of};
-ghost use Rattle.call_read.specs.Read.{woke_of, kind_shown, status_of};
+ghost use Rattle.std.specs.Prelude.{◌≡◌};
+ghost use Rattle.call_read.specs.Read.{woke_of, kind_shown, quiet_time, status_of};
 ghost use Rattle.call_read.specs.Exact.{WakeExact, StatusExact};
 
+use cycle::Cycle;
 use settings::Config;
 use state::{Profile, State};
 use time::When;
 
-// What `wake` answers.
+// What `wake` answers. Both records cross to C, so the refusal is a number and the kind too.
 #[repr(C)]
 #[derive(Clone, Copy)]
 pub struct Woke {
@@ -35,71 +34,67 @@ pub struct Shown {
 
 // The wake: the least instant that a stored deadline, a ladder or a start condition names, or none. It
 // may come before there is anything to do. Refusals 1 to 6.
+#[tactic(auto, using(crate::proofs::Exact::wake_exact), unfolding(crate::specs::Read::woke_of))]
 pub fn wake(s: State, cfg: Config, p: Profile) -> Woke
     ensures wake { result ≡ woke_of s cfg p }
     ensures exact { WakeExact s cfg p (woke_of s cfg p) }
 {
-    let back = refusal::before_link(s, cfg, p);
-    if back.number != 0 {
+    if let Err(back) = refusal::before_link(&s, cfg, p) {
         return Woke {
-            number: back.number,
-            place: back.place,
+            number: back.number(),
+            place: back.place(),
             at: When::NONE,
         };
     }
-    let next = wake::next_wake(s, cfg, p);
+    let at = wake::next_wake(&s, &cfg, p);
     Woke {
-        number: back.number,
-        place: back.place,
-        at: next,
+        number: 0,
+        place: 0,
+        at: at.into(),
     }
 }
 
-// A kind that is Idle is shown as 0, whatever its number.
-fn kind_shown(kind: u8) -> u8
-    ensures { result ≡ kind_shown kind }
+// The number of the kind. A number that is none of the list counts as Idle, and is shown as it.
+#[tactic(auto, unfolding(crate::specs::Read::kind_shown))]
+fn kind_shown(c: &Cycle) -> u8
+    ensures { result ≡ kind_shown c.now.kind }
 {
-    if start::idle(kind) {
-        return numbers::cycle::IDLE;
-    }
-    kind
+    c.stage().number()
 }
 
-// The time since an epoch, where it is held, was heard or started, whichever is later.
-fn quiet_time(held: bool, heard: When, started: u64, time: u64) -> When
-    ensures { result ≡ whenever held (time - latest_of heard started) }
+// The time since the current epoch was heard or started, whichever is later, where there is one.
+#[tactic(auto, unfolding(crate::specs::Read::quiet_time))]
+fn quiet_time(s: &State, time: u64) -> When
+    ensures { result ≡ quiet_time s.now time }
 {
-    let from = start::latest(heard, started);
-    let d = time::since(time, from);
-    time::whenever(held, d)
+    let from = start::latest(s.mem.rx_cur, s.cur.ep.started);
+    s.cur.some.then_some(time.saturating_sub(from)).into()
 }
 
 // The link line. Refusals 1 to 6.
+#[tactic(auto, using(crate::proofs::Exact::status_exact), unfolding(crate::specs::Read::status_of))]
 pub fn status(s: State, cfg: Config, p: Profile, time: u64) -> Shown
     ensures status { result ≡ status_of s cfg p time }
     ensures exact { StatusExact s cfg p time (status_of s cfg p time) }
 {
-    let back = refusal::before_link(s, cfg, p);
-    if back.number != 0 {
+    if let Err(back) = refusal::before_link(&s, cfg, p) {
         return Shown {
-            number: back.number,
-            place: back.place,
+            number: back.number(),
+            place: back.place(),
             tag: When::NONE,
             kind: numbers::cycle::IDLE,
             wake: When::NONE,
             quiet: When::NONE,
         };
     }
-    let next = wake::next_wake(s, cfg, p);
-    let tag = time::whenever(s.cur.some, s.cur.ep.tag);
-    let kind = kind_shown(s.cycle.kind);
-    let quiet = quiet_time(s.cur.some, s.mem.rx_cur, s.cur.ep.started, time);
+    let tag = s.cur.some.then_some(s.cur.ep.tag);
+    let next = wake::next_wake(&s, &cfg, p);
     Shown {
-        number: back.number,
-        place: back.place,
-        tag: tag,
-        kind: kind,
-        wake: next,
-        quiet: quiet,
+        number: 0,
+        place: 0,
+        tag: tag.into(),
+        kind: kind_shown(&s.cycle),
+        wake: next.into(),
+        quiet: quiet_time(&s, time),
     }
 }

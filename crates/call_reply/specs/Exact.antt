@@ -1,7 +1,6 @@
 -- A start reply's number in document 01's words: accepted exactly where 1 to 6 and 10 pass, and each
 -- number exactly where its sentence is the first to hold.
 use Rattle.std.specs.Prelude.{ℕ, ◌≤◌, ◌<◌, true, false, ◌↔◌, ◌⊎◌, ◌≡◌}
-use Rattle.std.proofs.Math.Logic.Iff
 use mathlib.Core.List.{[]}
 use Rattle.settings.specs.declared.Config.{Config}
 use Rattle.numbers.specs.Numbers.{refused_no_start}

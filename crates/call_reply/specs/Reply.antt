@@ -15,7 +15,7 @@ use Rattle.state.specs.declared.Memory.{Memory}
 use Rattle.state.specs.declared.State.{State}
 use Rattle.state.specs.declared.Profile.{Profile}
 use Rattle.start.specs.Start.{silence_interval, start_kind, called_for}
-use Rattle.refusal.specs.declared.Refused.{Refused}
+use Rattle.refusal.specs.Refused.{Refused}
 use Rattle.refusal.specs.Refusal.{Test, first, by, link_tests}
 use Rattle.answer.specs.Outcome.{Outcome, done, outcome_by}
 use Rattle.call_reply.specs.declared.StartReply.{StartReply}

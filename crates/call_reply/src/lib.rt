@@ -4,6 +4,8 @@
 
 ghost use Rattle.std.specs.Prelude.{◌≡◌, []};
 ghost use Rattle.time.specs.Time.{least};
+ghost use Rattle.start.specs.Start.{kind_given};
+ghost use Rattle.refusal.specs.Refused.{refused_of};
 ghost use Rattle.params.specs.Params.{value_or};
 ghost use Rattle.answer.specs.Answers.{Answers};
 ghost use Rattle.call_reply.specs.Reply.{setup_rtt, setup_first, setup_sched, attempt_sched, attempt_time, attempt_of, raises_silence, silence_after, memory_after, started_of, taken_of, reply_refused, reply_of};
@@ -13,13 +15,15 @@ use answer::Answer;
 use cycle::Attempt;
 use epoch::Index;
 use ladder::{Ladder, Schedule};
-use refusal::Refused;
+use numbers::cycle::Stage;
+use numbers::start::Start;
+use refusal::Refusal;
 use settings::Config;
 use state::{Memory, Profile, State};
 use time::When;
 
 // Whether the start opened an attempt, and the numbers of its handshake, its first message, its
-// transport and its lease or none.
+// transport and its lease or none. It crosses to C: without an attempt the flag is off.
 #[repr(C)]
 #[derive(Clone, Copy)]
 pub struct StartReply {
@@ -34,165 +38,142 @@ pub struct StartReply {
 fn or_zero(w: When) -> u64
     ensures { result ≡ value_or 0 w }
 {
-    if w.some { w.at } else { 0 }
+    w.get().unwrap_or(0)
 }
 
 // The longer of the round trips that were measured.
-fn setup_rtt(m: Memory) -> u64
-    ensures { result ≡ setup_rtt m }
+#[tactic(auto, using(time::proofs::Std::std_words), unfolding(crate::specs::Reply::setup_rtt))]
+fn setup_rtt(m: &Memory) -> u64
+    ensures { result ≡ setup_rtt m.now }
 {
-    let a = or_zero(m.hs_rtt);
-    let b = or_zero(m.srtt);
-    time::max(a, b)
+    or_zero(m.hs_rtt).max(or_zero(m.srtt))
 }
 
 // The first interval of a setup's resends: two round trips, at least a second and the backoff kept
 // from an earlier setup, at most the settings' rung.
-fn setup_first(m: Memory, cfg: Config) -> u64
-    ensures { result ≡ setup_first m cfg }
+#[tactic(auto, using(time::proofs::Std::std_words), unfolding(crate::specs::Reply::setup_first))]
+fn setup_first(m: &Memory, cfg: Config) -> u64
+    ensures { result ≡ setup_first m.now cfg }
 {
-    let rtt = setup_rtt(m);
-    let two = time::sat_mul(rtt, 2);
-    let least = time::max(two, 1000);
-    let kept = or_zero(m.setup_rto);
-    let first = time::max(least, kept);
-    let rung = params::rung(cfg);
-    time::min(first, rung)
+    let two = setup_rtt(m).saturating_mul(2);
+    let first = two.max(1000).max(or_zero(m.setup_rto));
+    first.min(params::rung(cfg))
 }
 
 // A setup's resends, as many as end before the handshake timeout.
-fn setup_sched(m: Memory, cfg: Config) -> Schedule
-    ensures { result ≡ setup_sched m cfg }
+#[tactic(auto, unfolding(crate::specs::Reply::setup_sched))]
+fn setup_sched(m: &Memory, cfg: Config) -> Schedule
+    ensures { result ≡ setup_sched m.now cfg }
 {
-    let first = setup_first(m, cfg);
-    let made = Schedule::doubling(
-        first,
-        255,
-        When {
-            some: true,
-            at: cfg.handshake,
-        },
-    );
-    made.sched
+    Schedule::doubling(setup_first(m, cfg), 255, Some(cfg.handshake)).sched
 }
 
 // The attempt's resends: a handshake of three messages measures its round trip.
-fn attempt_sched(m: Memory, cfg: Config, profile: Profile) -> Schedule
-    ensures { result ≡ attempt_sched m cfg profile }
+#[tactic(auto, unfolding(crate::specs::Reply::attempt_sched))]
+fn attempt_sched(m: &Memory, cfg: Config, profile: Profile) -> Schedule
+    ensures { result ≡ attempt_sched m.now cfg profile }
 {
     if profile.messages == 3 {
-        return setup_sched(m, cfg);
+        setup_sched(m, cfg)
+    } else {
+        params::first(cfg).sched
     }
-    let made = params::first(cfg);
-    made.sched
 }
 
 // How long the attempt may take.
+#[tactic(auto, unfolding(crate::specs::Reply::attempt_time))]
 fn attempt_time(cfg: Config, profile: Profile) -> u64
     ensures { result ≡ attempt_time cfg profile }
 {
     if profile.messages == 3 {
-        return cfg.handshake;
+        cfg.handshake
+    } else {
+        params::budget(cfg)
     }
-    params::budget(cfg)
 }
 
 // The attempt that a start opens.
-fn attempt(m: Memory, cfg: Config, profile: Profile, time: u64, r: StartReply) -> Attempt
-    ensures { result ≡ attempt_of m cfg profile time r }
+#[tactic(auto, unfolding(crate::specs::Reply::attempt_of))]
+fn attempt(m: &Memory, cfg: Config, profile: Profile, time: u64, r: StartReply) -> Attempt
+    ensures { result ≡ attempt_of m.now cfg profile time r }
 {
     let sched = attempt_sched(m, cfg, profile);
-    let ladder = Ladder::new(time, sched);
-    let wait = attempt_time(cfg, profile);
-    let deadline = time::later(time, wait);
-    let lease = r.lease;
     Attempt {
         hs: r.hs,
         out: r.msg,
-        lease: lease,
+        lease: r.lease,
         transport: r.transport,
         first: time,
-        ladder: ladder,
-        deadline: deadline,
+        ladder: Ladder::new(time, sched),
+        deadline: time::later(time, attempt_time(cfg, profile)),
         resent: false,
     }
 }
 
 // Whether the silence count rises: by a start by silence, while its interval is below the cap.
-fn raises(m: Memory, cfg: Config, kind: When) -> bool
-    ensures { result ≡ raises_silence m cfg kind }
+#[tactic(auto, unfolding(crate::specs::Reply::raises_silence))]
+fn raises(m: &Memory, cfg: Config, kind: Option<Start>) -> bool
+    ensures { result ≡ raises_silence m.now cfg (kind_given kind) }
 {
-    if kind.at == numbers::start::SILENCE {
-        let interval = start::silence_interval(m, cfg);
-        return interval < cfg.after;
-    }
-    false
+    kind == Some(Start::Silence) && start::silence_interval(m, &cfg) < cfg.after
 }
 
-fn silence_after(m: Memory, cfg: Config, kind: When) -> u8
-    ensures { result ≡ silence_after m cfg kind }
+#[tactic(auto, using(time::proofs::Std::std_words), unfolding(crate::specs::Reply::silence_after))]
+fn silence_after(m: &Memory, cfg: Config, kind: Option<Start>) -> u8
+    ensures { result ≡ silence_after m.now cfg (kind_given kind) }
 {
     if raises(m, cfg, kind) {
-        return time::one_more(m.silence);
+        m.silence.saturating_add(1)
+    } else {
+        m.silence
     }
-    m.silence
 }
 
 // What an opened attempt leaves of the memory: no repair is due.
-fn memory_after(m: Memory, cfg: Config, kind: When) -> Memory
-    ensures { result ≡ memory_after m cfg kind }
+#[tactic(auto, unfolding(crate::specs::Reply::memory_after))]
+fn memory_after(m: Memory, cfg: Config, kind: Option<Start>) -> Memory
+    ensures { result ≡ memory_after m cfg (kind_given kind) }
 {
-    let n = silence_after(m, cfg, kind);
-    let mut m2 = m;
-    m2.due = false;
-    m2.silence = n;
-    m2
+    Memory {
+        due: false,
+        silence: silence_after(&m, cfg, kind),
+        ..m
+    }
 }
 
 // The state with the attempt in progress.
-fn started(s: State, cfg: Config, profile: Profile, time: u64, r: StartReply) -> State
+#[tactic(auto, unfolding(crate::specs::Reply::started_of))]
+fn started(mut s: State, cfg: Config, profile: Profile, time: u64, r: StartReply) -> State
     ensures { result ≡ started_of s cfg profile time r }
 {
-    let kind = start::kind(s, cfg, profile, time);
-    let init = attempt(s.mem, cfg, profile, time, r);
-    let mem = memory_after(s.mem, cfg, kind);
-    let mut cycle = s.cycle;
-    cycle.kind = numbers::cycle::INIT;
-    cycle.init = init;
-    let mut s2 = s;
-    s2.mem = mem;
-    s2.cycle = cycle;
-    s2
+    let kind = start::kind(&s, &cfg, profile, time);
+    s.cycle.kind = Stage::Init.number();
+    s.cycle.init = attempt(&s.mem, cfg, profile, time, r);
+    s.mem = memory_after(s.mem, cfg, kind);
+    s
 }
 
 // A start that opened nothing leaves the state.
+#[tactic(auto, unfolding(crate::specs::Reply::taken_of))]
 fn taken(s: State, cfg: Config, profile: Profile, time: u64, r: StartReply) -> State
     ensures { result ≡ taken_of s cfg profile time r }
 {
     if r.opened {
-        return started(s, cfg, profile, time, r);
+        started(s, cfg, profile, time, r)
+    } else {
+        s
     }
-    s
 }
 
 // 1 to 6, then 10.
-fn send_back(s: State, cfg: Config, profile: Profile, time: u64) -> Refused
-    ensures { result ≡ reply_refused s cfg profile time }
+fn send_back(s: &State, cfg: Config, profile: Profile, time: u64) -> Result<(), Refusal>
+    ensures { refused_of result ≡ reply_refused s.now cfg profile time }
 {
-    let back = refusal::before_link(s, cfg, profile);
-    if back.number != 0 {
-        return back;
+    refusal::before_link(s, cfg, profile)?;
+    if !start::called_for(s, &cfg, profile, time) {
+        return Err(Refusal::NoStart);
     }
-    if start::called_for(s, cfg, profile, time) {
-        return Refused {
-            number: 0,
-            place: 0,
-        };
-    }
-    Refused {
-        number: numbers::refused::NO_START,
-        place: 0,
-    }
+    Ok(())
 }
 
 // A start reply. It has no event; a refused call hands back the state that it was given.
@@ -200,10 +181,8 @@ pub fn reply(s: State, cfg: Config, profile: Profile, time: u64, r: StartReply) 
     ensures reply { Answers (reply_of s cfg profile time r) result [] [] }
     ensures exact { ReplyExact s cfg profile time (reply_of s cfg profile time r) }
 {
-    let back = send_back(s, cfg, profile, time);
-    if back.number != 0 {
+    if let Err(back) = send_back(&s, cfg, profile, time) {
         return answer::sent_back(back, s);
     }
-    let s2 = taken(s, cfg, profile, time, r);
-    answer::finish(s2, 0, 0)
+    answer::finish(taken(s, cfg, profile, time, r), 0, 0)
 }

@@ -11,7 +11,7 @@ use Rattle.epoch.specs.declared.Epoch.{Epoch}
 use Rattle.epoch.specs.Put.{put_ep}
 use Rattle.state.specs.declared.State.{State}
 use Rattle.state.specs.Parts.{put_cur, epochs_of, epoch_ladders, all_ladders, ladders_of}
-use Rattle.refusal.specs.declared.Refused.{Refused}
+use Rattle.refusal.specs.Refused.{Refused}
 use Rattle.refusal.specs.Refusal.{epochs_bad, cands_bad, numbers_bad, ladders_bad, numbered, first, by, state_tests, state_back}
 use Rattle.answer.specs.Outcome.{done}
 use Rattle.answer.proofs.Laws.{by-either, by-refused}
@@ -25,6 +25,20 @@ module _ (s : State) where
       under (cands_bad s) (epochs_bad s) (numbers_bad s) (ladders_bad s) (below_held s.cur.some s.cur.ep.sent count)
     where
       under : (a b c d e : Bool) → (first ((by 3 a ∷ by 4 b ∷ by 5 c ∷ by 6 d ∷ []) ++ by 11 e ∷ [])).number ≡ pick (eqb (first (by 3 a ∷ by 4 b ∷ by 5 c ∷ by 6 d ∷ [])).number 0) (pick e 11 0) (first (by 3 a ∷ by 4 b ∷ by 5 c ∷ by 6 d ∷ [])).number
+      under true b c d e = refl
+      under false true c d e = refl
+      under false false true d e = refl
+      under false false false true e = refl
+      under false false false false true = refl
+      under false false false false false = refl
+
+  -- no place is given with a number
+  pub told-first : (count : ℕ) → first (told_tests s count) ≡ numbered (told_number s count)
+  unfolding told_number told_tests state_tests first
+  told-first count =
+      under (cands_bad s) (epochs_bad s) (numbers_bad s) (ladders_bad s) (below_held s.cur.some s.cur.ep.sent count)
+    where
+      under : (a b c d e : Bool) → first ((by 3 a ∷ by 4 b ∷ by 5 c ∷ by 6 d ∷ []) ++ by 11 e ∷ []) ≡ numbered (first ((by 3 a ∷ by 4 b ∷ by 5 c ∷ by 6 d ∷ []) ++ by 11 e ∷ [])).number
       under true b c d e = refl
       under false true c d e = refl
       under false false true d e = refl

@@ -1,7 +1,6 @@
 -- The numbers of a told sent count in document 01's words: it is accepted exactly where the tests that
 -- concern it pass, and each number is given exactly where its sentence is the first to hold.
 use Rattle.std.specs.Prelude.{ℕ, ◌≤◌, ◌<◌, true, ◌↔◌, ◌≡◌}
-use Rattle.std.proofs.Math.Logic.Iff
 use mathlib.Core.List.{[]}
 use Rattle.numbers.specs.Numbers.{refused_sent}
 use Rattle.state.specs.declared.State.{State}

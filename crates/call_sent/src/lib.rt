@@ -2,44 +2,41 @@
 #![tactic(auto)]
 
 ghost use Rattle.std.specs.Prelude.{◌≡◌, []};
+ghost use Rattle.refusal.specs.Refused.{refused_of};
+ghost use Rattle.refusal.specs.Refusal.{numbered};
 ghost use Rattle.answer.specs.Answers.{Answers};
 ghost use Rattle.call_sent.specs.Told.{below_held, told_number, told_state, told_of};
 ghost use Rattle.call_sent.specs.Exact.{ToldExact};
 
 use answer::Answer;
-use refusal::Refused;
+use refusal::Refusal;
 use state::State;
 
 // 11: a count below the held one.
-fn below(some: bool, sent: u64, count: u64) -> bool
-    ensures { result ≡ below_held some sent count }
+#[tactic(auto, unfolding(crate::specs::Told::below_held))]
+fn below(s: &State, count: u64) -> bool
+    ensures { result ≡ below_held s.now.cur.some s.now.cur.ep.sent count }
 {
-    if some { count < sent } else { false }
+    s.cur.some && count < s.cur.ep.sent
 }
 
 // 3 to 6, then 11.
-fn told_back(s: State, count: u64) -> u8
-    ensures { result ≡ told_number s count }
+fn told_back(s: &State, count: u64) -> Result<(), Refusal>
+    ensures { refused_of result ≡ numbered (told_number s.now count) }
 {
-    let back = refusal::state_back(s);
-    if back != 0 {
-        return back;
+    refusal::before_told(s)?;
+    if below(s, count) {
+        return Err(Refusal::Sent);
     }
-    if below(s.cur.some, s.cur.ep.sent, count) {
-        return numbers::refused::SENT;
-    }
-    back
+    Ok(())
 }
 
-fn put_sent(s: State, count: u64) -> State
+#[tactic(auto, unfolding(crate::specs::Told::told_state))]
+fn put_sent(mut s: State, count: u64) -> State
     ensures { result ≡ told_state s count }
 {
     if s.cur.some {
-        let mut s2 = s;
-        let mut cur = s2.cur;
-        cur.ep.sent = count;
-        s2.cur = cur;
-        return s2;
+        s.cur.ep.sent = count;
     }
     s
 }
@@ -51,14 +48,8 @@ pub fn told(s: State, time: u64, count: u64) -> Answer
     ensures told { Answers (told_of s count) result [] [] }
     ensures exact { ToldExact s count (told_of s count) }
 {
-    let number = told_back(s, count);
-    if number != 0 {
-        let back = Refused {
-            number: number,
-            place: 0,
-        };
-        return answer::sent_back(back, s);
+    match told_back(&s, count) {
+        Err(back) => answer::sent_back(back, s),
+        Ok(()) => answer::finish(put_sent(s, count), 0, 0),
     }
-    let s2 = put_sent(s, count);
-    answer::finish(s2, 0, 0)
 }

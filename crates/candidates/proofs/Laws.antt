@@ -17,6 +17,7 @@ use Rattle.time.specs.Time.{none, at, sooner_of, reached_of}
 use Rattle.time.specs.Laws.{least-left, least-le}
 use Rattle.candidates.specs.declared.Candidates.{Candidates}
 use Rattle.candidates.specs.Held.{Candidate, held_of, between, firsts, cand_at, held_by, numbers, without, expired_in, born_after, earliest_of, place_of, spot_of, chosen, choosing, others, removed_of, younger, kept_after, cleared_of, leaving, expire_of}
+use Rattle.candidates.specs.Changes.{Changes}
 use Rattle.candidates.proofs.Places.{length-between, others-none, read_range}
 use Rattle.candidates.specs.Repeats.{repeated}
 use Rattle.candidates.proofs.Places.{repeated_part}
@@ -178,31 +179,29 @@ expired-at v s now =
     expired-place (cand_at v) s now 0 (held_of v.len)
     ∙ ap₂ (λ k j. pick (ltb k (held_of v.len)) (leb (get_or v.deadline j 0) now) false) (sym (spot_of_lem v s)) (zero-add (spot (cand_at v) s 0 (held_of v.len)) ∙ sym (spot_of_lem v s))
 
--- ---- what a search among the n held, which gives place i, tells
+-- ---- what the place i of a search tells
 
-module _ (v : Candidates) (s n i : ℕ) (p : n ≡ held_of v.len) (f : i ≡ 0 + place_of s (between 0 n v.seq)) where
-  found : i ≡ spot_of v s
-  found = f ∙ (zero-add (place_of s (between 0 n v.seq)) ∙ ap (λ m. place_of s (between 0 m v.seq)) p)
+module _ (v : Candidates) (s i : ℕ) (f : i ≡ spot_of v s) where
+  here : i < held_of v.len → ltb (spot_of v s) (held_of v.len) ≡ true
+  here h = lt-ltb (spot_of v s) (held_of v.len) (rw f at h)
 
-  here : i < n → ltb (spot_of v s) (held_of v.len) ≡ true
-  here h = lt-ltb (spot_of v s) (held_of v.len) (rw (found, p) at h)
-
-  nowhere : n ≤ i → ltb (spot_of v s) (held_of v.len) ≡ false
-  nowhere h = le-ltb (spot_of v s) (held_of v.len) (rw (found, p) at h)
-
-  pub removed_here : i < n → choosing (others i n) v ≡ removed_of v s
+  pub removed_here : i < held_of v.len → choosing (others i (held_of v.len)) v ≡ removed_of v s
   unfolding removed_of
-  removed_here h = ap₂ (λ j m. choosing (others j m) v) found p ∙ rw (here h)
+  removed_here h = ap (λ j. choosing (others j (held_of v.len)) v) f ∙ rw (here h)
 
-  pub removed_none : n ≤ i → v ≡ removed_of v s
+  pub expired-here : (now : ℕ) → i < held_of v.len → leb (get_or v.deadline i 0) now ≡ expired_in s now (held_by v)
+  expired-here now h = sym (expired-at v s now ∙ (rw (here h) (ap (λ j. leb (get_or v.deadline j 0) now) (sym f))))
+
+module _ (v : Candidates) (s : ℕ) (f : held_of v.len ≡ spot_of v s) where
+  nowhere : ltb (spot_of v s) (held_of v.len) ≡ false
+  nowhere = le-ltb (spot_of v s) (held_of v.len) (omega (arith, f))
+
+  pub removed_none : v ≡ removed_of v s
   unfolding removed_of
-  removed_none h = rw (nowhere h)
+  removed_none = rw nowhere
 
-  pub expired-here : (now : ℕ) → i < n → expired_in s now (held_by v) ≡ leb (get_or v.deadline i 0) now
-  expired-here now h = expired-at v s now ∙ (rw (here h) (ap (λ j. leb (get_or v.deadline j 0) now) (sym found)))
-
-  pub expired-none : (now : ℕ) → n ≤ i → expired_in s now (held_by v) ≡ false
-  expired-none now h = expired-at v s now ∙ rw (nowhere h)
+  pub expired-none : (now : ℕ) → false ≡ expired_in s now (held_by v)
+  expired-none now = sym (expired-at v s now ∙ rw nowhere)
 
 -- ---- retain
 
@@ -356,3 +355,23 @@ module _ (v : Candidates) (h : repeated (firsts v.len v.seq) ≡ false) where
       under : (q : Bool) → repeated (firsts (leaving q v s).cands.len (leaving q v s).cands.seq) ≡ false
       under true = removed_once s
       under false = h
+
+-- arrays that each keep what stood at the same places are the candidates at those places
+pub changed : (R : List ℕ → ℕ → List ℕ → Type 0) (ps : List ℕ) (v w : Candidates) → ((a b : List ℕ) (n : ℕ) → R a n b → (n ≡ length ps) × (b ≡ chosen ps a)) → Changes R v w → w ≡ choosing ps v
+unfolding choosing
+changed R ps v w f h =
+    λ i.
+    record {
+      hs = (f _ _ _ h.hs.1).1 i;
+      msg1 = (f _ _ _ h.msg1.1).1 i;
+      ack = (f _ _ _ h.ack.1).1 i;
+      carrier = (f _ _ _ h.carrier.1).1 i;
+      route = (f _ _ _ h.route.1).1 i;
+      born = (f _ _ _ h.born.1).1 i;
+      deadline = (f _ _ _ h.deadline.1).1 i;
+      bounded = (f _ _ _ h.bounded.1).1 i;
+      bound = (f _ _ _ h.bound.1).1 i;
+      seq = (f _ _ _ h.seq).1 i;
+      len = (f _ _ _ h.seq).0 i;
+      next = h.next i;
+    }

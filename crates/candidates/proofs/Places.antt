@@ -1,6 +1,7 @@
 -- Laws of arrays read and moved place by place, for the loops.
 use Prim.Native.Nat.{ℕ, zero, suc, ◌≤◌, ◌<◌, ◌+◌, ◌-◌}
-use Rattle.std.specs.Prelude.{Bool, true, false, ◌||◌, ◌≡◌, refl, take, drop, set, ltb, eqb}
+use Rattle.std.specs.List.{copy_within}
+use Rattle.std.specs.Prelude.{Option, Some, None, IfSome, is_some, unwrap_or, Bool, true, false, ◌||◌, ◌≡◌, refl, take, drop, set, ltb, eqb}
 use Rattle.std.proofs.Common.{true≢false, sym, ◌∙◌, ap, ⊎_elim, zero-add, add-zero, add-one, arith, take-append-drop, drop-cons, take-suc-set, drop-set-lt, get_or-set_other}
 use Rattle.std.proofs.lemmas.Bool.{false≢true}
 use mathlib.Core.List.{List, [], ◌∷◌, ◌++◌, map, append-nil, append_assoc, map-append, Sublistᴰ}
@@ -249,3 +250,19 @@ module _ {B : Type 0} (f : B → ℕ → B) (i n : ℕ) (l : List ℕ) (b : B) w
   pub fold_end : n ≤ i → fold f b (between i n l) ≡ b
   unfolding fold
   fold_end h = rw (between-end i n l h)
+
+-- a shift of what stands after place j
+pub shifted : (j n : ℕ) (l : List ℕ) → j < n → n ≤ length l → copy_within l (j + 1) n j ≡ chosen (others j n) l
+unfolding shifting moved
+shifted j n l h k =
+    let p : j + 1 + (n - (j + 1)) ≤ length l = omega arith in
+    sym (shifting-all j n l (omega arith) ∙ rw (read_range l (j + 1) (n - (j + 1)) p, length-range (j + 1) (n - (j + 1))) (sym (append_assoc (take j l) (take (n - (j + 1)) (drop (j + 1) l)) (drop (j + (n - (j + 1))) l))))
+
+-- a search that answers where a number stands below n, or n
+pub some-below : (o : Option ℕ) (n : ℕ) → IfSome o (λ j. j < n) → is_some o ≡ true → unwrap_or o n < n
+some-below None n h e = absurd (false≢true e)
+some-below (Some j) n h e = h
+
+pub none-at : (o : Option ℕ) (n : ℕ) → is_some o ≡ false → n ≤ unwrap_or o n
+none-at None n e = omega arith
+none-at (Some j) n e = absurd (true≢false e)

@@ -5,7 +5,6 @@ use Rattle.time.specs.Pick.{pick}
 use Rattle.time.specs.Lists.{fold, range, kept}
 use Rattle.time.specs.Time.{none, at, least, sooner_of}
 use Rattle.candidates.specs.declared.Candidates.{Candidates}
-use Rattle.candidates.specs.declared.Expired.{Expired}
 
 -- `struct Candidate` (candidates.rs); `bounded` is 0 where `bound` is absent
 pub record Candidate : Type 0 where
@@ -128,6 +127,11 @@ kept_after v t = choosing (younger t (held_of v.len) v.born) v
 -- `retain(|_| false)`: none is held, and no array changes
 unfoldable pub cleared_of : Candidates → Candidates
 cleared_of v = choosing [] v
+
+-- the candidates left, and whether one went
+pub record Expired : Type 0 where
+  pub cands : Candidates
+  pub gone : Bool
 
 -- a candidate of that number goes, or all stay
 abbrev pub leaving : Bool → Candidates → ℕ → Expired

@@ -1,7 +1,6 @@
 -- What the operations make of the list of candidates.
 use Rattle.std.specs.Prelude.{ℕ, Bool, ◌||◌, leb}
 use Rattle.std.proofs.Math.Bool.{false}
-use mathlib.Core.List.Sublistᴰ
 use mathlib.Core.List.{List, [], ◌∷◌}
 
 -- ---- the earliest deadline

@@ -1,15 +1,16 @@
 // Candidates: peer-started attempts, oldest first (candidates.rs).
 //
-// One array to a field, so that a removal moves numbers and copies no record. Places from `len` on
-// are no part of the state.
+// One array to a field, with a flag beside what may be absent, since C has it so in the state. A removal then moves
+// numbers and copies no record. Places from `len` on are no part of the state.
 #![tactic(auto)]
 
-ghost use Rattle.std.specs.Prelude.{◌≡◌, [], ◌+◌, ◌≤◌, ◌<◌, length, get_or};
+ghost use Rattle.std.specs.Prelude.{◌≡◌, [], ◌+◌, ◌≤◌, ◌<◌, length, unwrap_or, IfSome};
 ghost use Rattle.time.specs.Lists.{kept};
-ghost use Rattle.candidates.specs.Held.{held_of, between, firsts, held_by, without, expired_in, born_after, earliest_of, place_of, chosen, others, choosing, removed_of, younger, kept_after, cleared_of, expire_of};
+ghost use Rattle.candidates.specs.Held.{held_of, between, firsts, held_by, without, expired_in, born_after, earliest_of, place_of, spot_of, chosen, others, choosing, removed_of, younger, kept_after, cleared_of, expire_of};
 ghost use Rattle.candidates.specs.Repeats.{repeated, rises};
-
-use time::When;
+ghost use Rattle.std.specs.Fn.{FnOnceReturnsAtMut};
+ghost use Rattle.time.specs.Options.{when_of};
+ghost use Rattle.candidates.specs.Changes.{Changes};
 
 #[repr(C)]
 #[derive(Clone, Copy)]
@@ -32,68 +33,40 @@ pub struct Candidates {
     pub next: u64,
 }
 
-// The candidates left, and whether one went.
-#[derive(Clone, Copy)]
-pub struct Expired {
-    pub cands: Candidates,
-    pub gone: bool,
-}
-
-// How many are held, whatever the count claims: one above 32 is sent back before it is read.
-fn held(len: usize) -> usize
-    ensures { result ≡ held_of len }
-{
-    if len <= 32 { len } else { 32 }
-}
-
-// Where `x` first stands from place `i` up to `n`; `n` if it does not.
-fn find(a: &[u64; 32], i: usize, n: usize, x: u64) -> usize
+// Where `x` first stands from place `i` up to `n`.
+fn find(a: &[u64; 32], i: usize, n: usize, x: u64) -> Option<usize>
     requires { (i ≤ n) × (n ≤ 32) }
-    ensures { result ≡ i + place_of x (between i n a.now) }
+    ensures place { unwrap_or result n ≡ i + place_of x (between i n a.now) }
+    ensures within { IfSome result (λ j. j < n) }
 {
-    let mut j = i;
-    while j < n {
+    for j in i..n {
         if a[j] == x {
-            return j;
+            return Some(j);
         }
-        j += 1;
     }
-    n
+    None
 }
 
-// What stands at place `i`. An array that is lent is not copied to be read at a variable place.
-fn read(a: &[u64; 32], i: usize) -> u64
-    requires { i < 32 }
-    ensures { result ≡ get_or a.now i 0 }
-{
-    a[i]
-}
-
-// What stands after place `i`, up to `n`, moves down by one.
-fn drop_at(a: &mut [u64; 32], i: usize, n: usize)
+// What stands after place `i`, up to `n`, moves down by one; how many are left.
+fn drop_at(a: &mut [u64; 32], i: usize, n: usize) -> usize
     requires { (i < n) × (n ≤ 32) × (length a.old ≡ 32) }
-    ensures { a.new ≡ chosen (others i n) a.old }
+    ensures { (result ≡ length (others i n)) × (a.new ≡ chosen (others i n) a.old) }
 {
-    let mut j = i;
-    while j + 1 < n {
-        a[j] = a[j + 1];
-        j += 1;
-    }
+    a.copy_within(i + 1..n, i);
+    n - 1
 }
 
-// What stands below `n`, where the birth at its place is after `t`, moves to the front; how many.
+// What stands below `n`, where the birth at its place is after `t`, moves to the front; how many. A slice has no `retain`.
 fn pack(a: &mut [u64; 32], born: &[u64; 32], n: usize, t: u64) -> usize
     requires { (n ≤ 32) × (length a.old ≡ 32) }
     ensures { (result ≡ length (younger t n born.now)) × (a.new ≡ chosen (younger t n born.now) a.old) }
 {
     let mut w = 0;
-    let mut i = 0;
-    while i < n {
+    for i in 0..n {
         if t < born[i] {
             a[w] = a[i];
             w += 1;
         }
-        i += 1;
     }
     w
 }
@@ -104,14 +77,12 @@ fn rising(a: &[u64; 32], n: usize) -> bool
     ensures { result ≡ rises (between 0 n a.now) }
 {
     let mut last = a[0];
-    let mut i = 1;
-    while i < n {
+    for i in 1..n {
         let x = a[i];
         if x <= last {
             return false;
         }
         last = x;
-        i += 1;
     }
     true
 }
@@ -121,144 +92,128 @@ fn pairs(a: &[u64; 32], n: usize) -> bool
     requires { n ≤ 32 }
     ensures { result ≡ repeated (between 0 n a.now) }
 {
-    let mut i = 0;
-    while i < n {
-        if find(a, i + 1, n, a[i]) < n {
+    for i in 0..n {
+        if find(a, i + 1, n, a[i]).is_some() {
             return true;
         }
-        i += 1;
     }
     false
 }
 
-// Whether two of the first `n` numbers are equal; `n` above 32 counts as 32. Arrival numbers that
-// rise, as they do unless a caller made them otherwise, are told apart in one pass.
-pub fn repeats(seq: &[u64; 32], n: usize) -> bool
-    ensures { result ≡ repeated (firsts n seq.now) }
-{
-    let m = held(n);
-    if rising(seq, m) {
-        return false;
+impl Candidates {
+    // How many are held, whatever the count claims: one above 32 is sent back before it is read.
+    #[tactic(auto, using(time::proofs::Std::min_least), unfolding(crate::specs::Held::held_of))]
+    fn held(&self) -> usize
+        ensures value { result ≡ held_of self.now.len }
+        ensures within { result ≤ 32 }
+    {
+        self.len.min(32)
     }
-    pairs(seq, m)
-}
 
-// The least of the first `n` deadlines, absent where there is none; `n` above 32 counts as 32.
-pub fn earliest(deadlines: &[u64; 32], n: usize) -> When
-    ensures { result ≡ earliest_of (firsts n deadlines.now) }
-{
-    let m = held(n);
-    let mut w = When::NONE;
-    let mut i = 0;
-    while i < m {
-        let t = When {
-            some: true,
-            at: deadlines[i],
-        };
-        w = w.sooner(t);
-        i += 1;
+    // Where the candidate of that number stands.
+    fn spot(&self, seq: u64) -> Option<usize>
+        ensures place { unwrap_or result (held_of self.now.len) ≡ spot_of self.now seq }
+        ensures within { IfSome result (λ i. (i < held_of self.now.len) × (i < 32)) }
+    {
+        find(&self.seq, 0, self.held(), seq)
     }
-    w
-}
 
-// Without the one at place `i`. Here and below a parameter becomes a local before its fields are
-// lent, so that the proof sees it whole.
-fn dropped(v: Candidates, i: usize, n: usize) -> Candidates
-    requires { (i < n) × (n ≤ 32) }
-    ensures { result ≡ choosing (others i n) v }
-{
-    let mut v = v;
-    drop_at(&mut v.hs, i, n);
-    drop_at(&mut v.msg1, i, n);
-    drop_at(&mut v.ack, i, n);
-    drop_at(&mut v.carrier, i, n);
-    drop_at(&mut v.route, i, n);
-    drop_at(&mut v.born, i, n);
-    drop_at(&mut v.deadline, i, n);
-    drop_at(&mut v.bounded, i, n);
-    drop_at(&mut v.bound, i, n);
-    drop_at(&mut v.seq, i, n);
-    v.len = n - 1;
-    v
-}
-
-// Without the candidate of that number, the others in order.
-pub fn remove(v: Candidates, seq: u64) -> Candidates
-    ensures value { result ≡ removed_of v seq }
-    ensures listed { held_by result ≡ without seq (held_by v) }
-{
-    let v = v;
-    let n = held(v.len);
-    let i = find(&v.seq, 0, n, seq);
-    if i < n { dropped(v, i, n) } else { v }
-}
-
-// Whether the candidate of that number has a deadline not after `now`.
-pub fn is_expired(v: Candidates, seq: u64, now: u64) -> bool
-    ensures { result ≡ expired_in seq now (held_by v) }
-{
-    let v = v;
-    let n = held(v.len);
-    let i = find(&v.seq, 0, n, seq);
-    if i < n {
-        read(&v.deadline, i) <= now
-    } else {
-        false
+    // Whether two have the same arrival number. Numbers that rise, as they do unless a caller made
+    // them otherwise, are told apart in one pass.
+    pub fn repeats(&self) -> bool
+        ensures { result ≡ repeated (firsts self.now.len self.now.seq) }
+    {
+        let n = self.held();
+        !rising(&self.seq, n) && pairs(&self.seq, n)
     }
-}
 
-// Without the candidate of that number where its deadline is not after `now`.
-pub fn expire(v: Candidates, seq: u64, now: u64) -> Expired
-    ensures { result ≡ expire_of v seq now }
-{
-    let v = v;
-    let n = held(v.len);
-    let i = find(&v.seq, 0, n, seq);
-    if n <= i {
-        return Expired {
-            cands: v,
-            gone: false,
-        };
+    // The least of the deadlines, absent where there is none.
+    pub fn earliest(&self) -> Option<u64>
+        ensures { when_of result ≡ earliest_of (firsts self.now.len self.now.deadline) }
+    {
+        let n = self.held();
+        let mut least = None;
+        for i in 0..n {
+            least = time::sooner(least, Some(self.deadline[i]));
+        }
+        least
     }
-    if now < read(&v.deadline, i) {
-        return Expired {
-            cands: v,
-            gone: false,
-        };
-    }
-    Expired {
-        cands: dropped(v, i, n),
-        gone: true,
-    }
-}
 
-// None is held any more.
-pub fn clear(mut v: Candidates) -> Candidates
-    ensures value { result ≡ cleared_of v }
-    ensures listed { held_by result ≡ [] }
-{
-    v.len = 0;
-    v
-}
+    // Each array of numbers changed by `f`, which answers how many places are left.
+    fn each<F: Fn(&mut [u64; 32]) -> usize>(&mut self, f: F)
+        requires { (a : _) → length a.now ≡ 32 → F.pre f a }
+        ensures { Changes (λ a n b. FnOnceReturnsAtMut F.FnOnce f a n b) self.old self.new }
+    {
+        f(&mut self.hs);
+        f(&mut self.msg1);
+        f(&mut self.ack);
+        f(&mut self.carrier);
+        f(&mut self.route);
+        f(&mut self.born);
+        f(&mut self.deadline);
+        f(&mut self.bounded);
+        f(&mut self.bound);
+        self.len = f(&mut self.seq);
+    }
 
-// Those born after `t`, in order.
-pub fn keep_born_after(v: Candidates, t: u64) -> Candidates
-    ensures value { result ≡ kept_after v t }
-    ensures listed { held_by result ≡ kept (born_after t) (held_by v) }
-{
-    let mut v = v;
-    let n = held(v.len);
-    let born = v.born;
-    pack(&mut v.hs, &born, n, t);
-    pack(&mut v.msg1, &born, n, t);
-    pack(&mut v.ack, &born, n, t);
-    pack(&mut v.carrier, &born, n, t);
-    pack(&mut v.route, &born, n, t);
-    pack(&mut v.born, &born, n, t);
-    pack(&mut v.deadline, &born, n, t);
-    pack(&mut v.bounded, &born, n, t);
-    pack(&mut v.bound, &born, n, t);
-    let left = pack(&mut v.seq, &born, n, t);
-    v.len = left;
-    v
+    // The one at place `i` goes, the others stay in order.
+    fn drop_at(&mut self, i: usize)
+        requires { i < held_of self.old.len }
+        ensures { self.new ≡ choosing (others i (held_of self.old.len)) self.old }
+    {
+        let n = self.held();
+        self.each(|a| drop_at(a, i, n));
+    }
+
+    // The candidate of that number goes, the others stay in order.
+    pub fn remove(&mut self, seq: u64)
+        ensures value { self.new ≡ removed_of self.old seq }
+        ensures listed { held_by self.new ≡ without seq (held_by self.old) }
+    {
+        if let Some(i) = self.spot(seq) {
+            self.drop_at(i);
+        }
+    }
+
+    // Whether the candidate of that number has a deadline not after `now`.
+    pub fn is_expired(&self, seq: u64, now: u64) -> bool
+        ensures { result ≡ expired_in seq now (held_by self.now) }
+    {
+        match self.spot(seq) {
+            Some(i) => self.deadline[i] <= now,
+            None => false,
+        }
+    }
+
+    // The candidate of that number goes where its deadline is not after `now`; whether it went.
+    #[tactic(auto, unfolding(crate::specs::Held::expire_of))]
+    pub fn expire(&mut self, seq: u64, now: u64) -> bool
+        ensures left { self.new ≡ (expire_of self.old seq now).cands }
+        ensures gone { result ≡ (expire_of self.old seq now).gone }
+    {
+        if !self.is_expired(seq, now) {
+            return false;
+        }
+        self.remove(seq);
+        true
+    }
+
+    // None is held any more.
+    #[tactic(auto, unfolding(crate::specs::Held::cleared_of, crate::specs::Held::choosing, crate::specs::Held::chosen), using(crate::proofs::Laws::held_cleared))]
+    pub fn clear(&mut self)
+        ensures value { self.new ≡ cleared_of self.old }
+        ensures listed { held_by self.new ≡ [] }
+    {
+        self.len = 0;
+    }
+
+    // Those born after `t` stay, in order.
+    pub fn keep_born_after(&mut self, t: u64)
+        ensures value { self.new ≡ kept_after self.old t }
+        ensures listed { held_by self.new ≡ kept (born_after t) (held_by self.old) }
+    {
+        let n = self.held();
+        let born = self.born;
+        self.each(|a| pack(a, &born, n, t));
+    }
 }

@@ -2,19 +2,21 @@
 #![tactic(auto)]
 
 ghost use Rattle.std.specs.Prelude.{◌≡◌, Bool};
-ghost use Rattle.time.specs.Pick.{pick};
-ghost use Rattle.time.specs.Time.{at as when_at};
-ghost use Rattle.events.specs.Log.{Appends};
-ghost use Rattle.cutover.specs.Cutover.{is_frame, prunes as prunes_of, pruned, demoted, given_up, spent as spent_of, kept_fin, heard_now, adopted, remembered, announced, heard_frame, cutover_of};
+ghost use Rattle.time.specs.Pick.{pick, and};
+ghost use Rattle.ladder.specs.Ladder.{anew};
 ghost use Rattle.params.specs.Params.{elicit_made};
-ghost use Rattle.ladder.specs.Ladder.{anew, next_at_of};
+ghost use Rattle.numbers.specs.Cases.{evidence_no};
 ghost use Rattle.events.specs.Events.{PeerRestarted};
+ghost use Rattle.events.specs.Told.{Tells};
 ghost use Rattle.retire.specs.Retire.{only};
-ghost use Rattle.time.specs.Pick.{and};
+ghost use Rattle.cutover.specs.Cutover.{is_frame, prunes as prunes_of, pruned, demoted, given_up, spent as spent_of, kept_fin, heard_now, adopted, remembered, announced, heard_frame, cutover_of};
 
 use candidates::Candidates;
+use cycle::Cycle;
 use epoch::{Drain, Epoch, Final, MayEpoch, MayLadder};
+use events::Log;
 use ladder::Ladder;
+use numbers::evidence::Evidence;
 use settings::Config;
 use state::{Bit, Given, Memory, State};
 use time::When;
@@ -27,40 +29,30 @@ pub struct Pend {
     pub fin: Final,
 }
 
-// What a cutover leaves: the state, and how long the log is.
-#[derive(Clone, Copy)]
-pub struct Cut {
-    pub state: State,
-    pub len: usize,
-}
-
-// Whether the candidates are dropped. A proof or a frame, the only evidence before `RESTART`, drops them;
-// otherwise the smaller node, which keeps its completed attempt, does.
-fn prunes(evidence: u64, smaller: bool) -> bool
-    ensures { result ≡ prunes_of evidence smaller }
+// Whether the candidates are dropped. A proof or a frame drops them; otherwise the smaller node, which
+// keeps its completed attempt, does.
+#[tactic(auto, unfolding(crate::specs::Cutover::prunes))]
+fn prunes(evidence: Evidence, smaller: bool) -> bool
+    ensures { result ≡ prunes_of (evidence_no evidence) smaller }
 {
-    if evidence < numbers::evidence::RESTART {
-        true
-    } else {
-        smaller
-    }
+    matches!(evidence, Evidence::Proof | Evidence::Frame) || smaller
 }
 
-fn prune(v: Candidates, evidence: u64, smaller: bool) -> Candidates
-    ensures { result ≡ pruned v evidence smaller }
+#[tactic(auto, unfolding(crate::specs::Cutover::pruned))]
+fn prune(mut v: Candidates, evidence: Evidence, smaller: bool) -> Candidates
+    ensures { result ≡ pruned v (evidence_no evidence) smaller }
 {
     if prunes(evidence, smaller) {
-        candidates::clear(v)
-    } else {
-        v
+        v.clear();
     }
+    v
 }
 
 // How long the old epoch is drained: the window after evidence, else up to the ceiling.
-fn hold(evidence: u64, cfg: Config) -> u64
-    ensures { result ≡ pick (is_frame evidence) cfg.drain cfg.retention }
+fn hold(evidence: Evidence, cfg: Config) -> u64
+    ensures { result ≡ pick (is_frame (evidence_no evidence)) cfg.drain cfg.retention }
 {
-    if evidence == numbers::evidence::FRAME {
+    if evidence == Evidence::Frame {
         cfg.drain
     } else {
         cfg.retention
@@ -68,107 +60,59 @@ fn hold(evidence: u64, cfg: Config) -> u64
 }
 
 // The old epoch as the drain, where the peer did not restart.
-fn demote(old: Epoch, restart: bool, evidence: u64, cfg: Config, time: u64) -> Drain
-    ensures { result ≡ demoted old restart evidence cfg time }
+#[tactic(auto, unfolding(crate::specs::Cutover::demoted))]
+fn demote(old: Epoch, restart: bool, evidence: Evidence, cfg: Config, time: u64) -> Drain
+    ensures { result ≡ demoted old restart (evidence_no evidence) cfg time }
 {
-    let h = hold(evidence, cfg);
-    let t = time::later(time, h);
     let mut ep = old;
     ep.fin.some = false;
     ep.elicit.some = false;
     Drain {
         some: !restart,
-        ep: ep,
-        deadline: t,
-        evidenced: evidence == numbers::evidence::FRAME,
+        ep,
+        deadline: time::later(time, hold(evidence, cfg)),
+        evidenced: evidence == Evidence::Frame,
     }
 }
 
 // The open drain is retired first, the old epoch after a restart.
-fn give_up(d: Drain, old: Epoch, restart: bool, log: &mut [u64; 768], len: usize) -> usize
-    ensures { Appends (given_up d old restart) len log.old result log.new }
+#[tactic(auto, using(retire::proofs::Told::tells_then), unfolding(crate::specs::Cutover::given_up))]
+fn give_up(d: Drain, old: Epoch, restart: bool, log: &mut Log)
+    ensures { Tells (given_up d old restart) log.old log.new }
 {
     if d.some {
-        let ep = d.ep;
-        let a = retire::retire(ep, log, len);
-        if restart {
-            retire::retire(old, log, a)
-        } else {
-            a
-        }
-    } else {
-        if restart {
-            retire::retire(old, log, len)
-        } else {
-            len
-        }
+        retire::retire(d.ep, log);
+    }
+    if restart {
+        retire::retire(old, log);
     }
 }
 
 // Whether a retained final message can be sent again: only after a delayed cutover, and only while
 // its ladder has a rung.
-fn has_rung(fin: Final) -> bool
-    ensures { result ≡ (next_at_of fin.ladder).some }
+#[tactic(auto, unfolding(crate::specs::Cutover::kept_fin))]
+fn keeps(fin: Final, evidence: Evidence) -> bool
+    ensures { result ≡ (kept_fin fin (evidence_no evidence)).some }
 {
-    let ladder = fin.ladder;
-    let n = ladder.next_at();
-    n.at.some
-}
-
-fn keeps(fin: Final, evidence: u64) -> bool
-    ensures { result ≡ (kept_fin fin evidence).some }
-{
-    if fin.some {
-        if evidence == numbers::evidence::DELAY {
-            has_rung(fin)
-        } else {
-            false
-        }
-    } else {
-        false
-    }
+    fin.some && evidence == Evidence::Delay && fin.ladder.next_at().is_some()
 }
 
 // A retained final message of a delayed cutover whose ladder is spent: a repair falls due.
-fn spent(fin: Final, evidence: u64) -> bool
-    ensures { result ≡ spent_of fin evidence }
+#[tactic(auto, unfolding(crate::specs::Cutover::spent))]
+fn spent(fin: Final, evidence: Evidence) -> bool
+    ensures { result ≡ spent_of fin (evidence_no evidence) }
 {
-    if fin.some {
-        if evidence == numbers::evidence::DELAY {
-            let has = has_rung(fin);
-            !has
-        } else {
-            false
-        }
-    } else {
-        false
-    }
+    fin.some && evidence == Evidence::Delay && fin.ladder.next_at().is_none()
 }
 
-fn heard_now(w: When, evidence: u64, time: u64) -> When
-    ensures { result ≡ heard_now w evidence time }
+#[tactic(auto, unfolding(crate::specs::Cutover::heard_now))]
+fn heard_now(w: When, evidence: Evidence, time: u64) -> When
+    ensures { result ≡ heard_now w (evidence_no evidence) time }
 {
-    if evidence == numbers::evidence::FRAME {
-        When {
-            some: true,
-            at: time,
-        }
+    if evidence == Evidence::Frame {
+        When::of(time)
     } else {
         w
-    }
-}
-
-// The instant, where none was set before.
-fn or_now(w: When, time: u64) -> When
-    ensures { result ≡ pick w.some w (when_at time) }
-{
-    if w.some {
-        w
-    } else {
-        When {
-            some: true,
-            at: time,
-        }
     }
 }
 
@@ -177,88 +121,72 @@ fn elicits(moved: bool, l: MayLadder, cfg: Config, time: u64) -> MayLadder
     ensures { result ≡ pick moved l (record { some = Bool.true; ladder = anew time (elicit_made cfg).sched }) }
 {
     if moved {
-        l
-    } else {
-        let m = params::elicit(cfg);
-        let sched = m.sched;
-        let ladder = Ladder::new(time, sched);
-        MayLadder {
-            some: true,
-            ladder: ladder,
-        }
+        return l;
+    }
+    MayLadder {
+        some: true,
+        ladder: Ladder::new(time, params::elicit(cfg).sched),
     }
 }
 
 // The new epoch.
-fn adopt(ep: Epoch, fin: Final, evidence: u64, cfg: Config, time: u64) -> Epoch
-    ensures { result ≡ adopted ep fin evidence cfg time }
+#[tactic(auto, unfolding(crate::specs::Cutover::adopted, crate::specs::Cutover::kept_fin))]
+fn adopt(ep: Epoch, fin: Final, evidence: Evidence, cfg: Config, time: u64) -> Epoch
+    ensures { result ≡ adopted ep fin (evidence_no evidence) cfg time }
 {
-    let base = or_now(ep.base, time);
-    let heard = heard_now(ep.heard, evidence, time);
     let moved = heard_now(ep.moved, evidence, time);
-    let some = keeps(fin, evidence);
-    let elicit = elicits(moved.some, ep.elicit, cfg, time);
-    let mut f = fin;
-    f.some = some;
-    let w = When {
-        some: true,
-        at: time,
-    };
-    let mut e = ep;
-    e.base = base;
-    e.started = time;
-    e.heard = heard;
-    e.moved = moved;
-    e.fin = f;
-    e.elicit = elicit;
-    e.prompted = w;
-    e
+    Epoch {
+        base: When::of(ep.base.get().unwrap_or(time)),
+        started: time,
+        heard: heard_now(ep.heard, evidence, time),
+        moved,
+        fin: Final {
+            some: keeps(fin, evidence),
+            ..fin
+        },
+        elicit: elicits(moved.some, ep.elicit, cfg, time),
+        prompted: When::of(time),
+        ..ep
+    }
 }
 
-// What a frame under the new epoch tells.
-fn remember_frame(m: Memory, k: bool, time: u64) -> Memory
+// What a frame under the current epoch tells.
+#[tactic(auto, unfolding(crate::specs::Cutover::heard_frame))]
+pub fn hear_frame(m: Memory, k: bool, time: u64) -> Memory
     ensures { result ≡ heard_frame m k time }
 {
-    let w = When {
-        some: true,
-        at: time,
-    };
-    let b = Bit { some: true, on: k };
-    let mut m2 = m;
-    m2.last_rx = w;
-    m2.rx_cur = w;
-    m2.peer_k = b;
-    m2.sent_data = false;
-    m2.silence = 0;
-    m2
+    let now = When::of(time);
+    Memory {
+        last_rx: now,
+        rx_cur: now,
+        peer_k: Bit { some: true, on: k },
+        sent_data: false,
+        silence: 0,
+        ..m
+    }
 }
 
 // The memory after a cutover: the link's age is reset by a restart only.
+#[tactic(auto, unfolding(crate::specs::Cutover::remembered, crate::specs::Cutover::cut_memory))]
 fn remember(
     m: Memory,
     restart: bool,
     due: bool,
-    evidence: u64,
+    evidence: Evidence,
     k: bool,
     spread: i32,
     time: u64,
 ) -> Memory
-    ensures { result ≡ remembered m restart due evidence k spread time }
+    ensures { result ≡ remembered m restart due (evidence_no evidence) k spread time }
 {
-    let since = since_of(m.link_since, restart, time);
-    let w = When {
-        some: true,
-        at: time,
-    };
-    let d = time::either(due, m.due);
     let mut m2 = m;
     m2.jitter = spread;
-    m2.link_since = since;
-    m2.last_cutover = w;
+    m2.link_since = since_of(m.link_since, restart, time);
+    m2.last_cutover = When::of(time);
     m2.abandons = 0;
-    m2.due = d;
-    if evidence == numbers::evidence::FRAME {
-        remember_frame(m2, k, time)
+    m2.due = due || m.due;
+    if evidence == Evidence::Frame {
+        hear_frame(m2, k, time)
     } else {
         m2
     }
@@ -271,68 +199,54 @@ fn since_of(since: u64, restart: bool, time: u64) -> u64
 }
 
 // The peer's new startup epoch, where it restarted and told one.
-fn restarted(restart: bool, peer: When, log: &mut [u64; 768], len: usize) -> usize
-    ensures { Appends (only (and restart peer.some) (PeerRestarted peer.at)) len log.old result log.new }
+fn restarted(restart: bool, peer: When, log: &mut Log)
+    ensures { Tells (only (and restart peer.some) (PeerRestarted peer.at)) log.old log.new }
 {
-    if restart {
-        if peer.some {
-            events::peer_restarted(log, len, peer.at)
-        } else {
-            len
-        }
-    } else {
-        len
+    if restart && peer.some {
+        log.peer_restarted(peer.at);
     }
 }
 
 // What is told of the new epoch.
-fn announce(
-    ep: Epoch,
-    restart: bool,
-    peer: When,
-    evidence: u64,
-    workers: bool,
-    log: &mut [u64; 768],
-    len: usize,
-) -> usize
-    ensures { Appends (announced ep restart peer evidence workers) len log.old result log.new }
+#[tactic(auto, using(retire::proofs::Told::tells_then), unfolding(crate::specs::Cutover::announced))]
+fn announce(ep: Epoch, restart: bool, peer: When, evidence: Evidence, workers: bool, log: &mut Log)
+    ensures { Tells (announced ep restart peer (evidence_no evidence) workers) log.old log.new }
 {
-    let a = retire::delegate(ep, workers, log, len);
-    let b = events::installed(log, a, ep.tag, ep.responder, evidence);
-    let c = restarted(restart, peer, log, b);
-    let d = events::prompt(log, c, ep.tag, events::NO_RUNGS);
-    events::rekeyed(log, d, ep.responder)
+    retire::delegate(ep, workers, log);
+    log.installed(ep.tag, ep.responder, evidence);
+    restarted(restart, peer, log);
+    log.prompt(ep.tag, events::NO_RUNGS);
+    log.rekeyed(ep.responder);
 }
 
 // The candidates are pruned, an open drain is retired, the current epoch is retired after a restart
 // or drained otherwise, the new epoch is installed, and the cutover is told.
+#[tactic(auto, using(retire::proofs::Told::tells_then), unfolding(crate::specs::Cutover::cutover_of))]
 pub fn cutover(
     s: State,
     g: Given,
     spread: i32,
     p: Pend,
-    evidence: u64,
+    evidence: Evidence,
     k: bool,
-    log: &mut [u64; 768],
-    len: usize,
-) -> Cut
-    ensures { (result.state ≡ (cutover_of s g spread p evidence k).state) × (Appends (cutover_of s g spread p evidence k).out len log.old result.len log.new) }
+    log: &mut Log,
+) -> State
+    ensures state { result ≡ (cutover_of s g spread p (evidence_no evidence) k).state }
+    ensures told { Tells (cutover_of s g spread p (evidence_no evidence) k).out log.old log.new }
 {
     let old = s.cur.ep;
-    let open = s.drain;
-    let a = give_up(open, old, p.restart, log, len);
-    let drain = demote(old, p.restart, evidence, g.cfg, g.now);
+    give_up(s.drain, old, p.restart, log);
     let ep = adopt(p.ep, p.fin, evidence, g.cfg, g.now);
     let due = spent(p.fin, evidence);
-    let mem = remember(s.mem, p.restart, due, evidence, k, spread, g.now);
-    let cands = prune(s.cands, evidence, g.profile.smaller);
-    let n = announce(ep, p.restart, s.mem.peer_epoch, evidence, g.workers, log, a);
-    let cur = MayEpoch { some: true, ep: ep };
-    let mut s2 = s;
-    s2.mem = mem;
-    s2.cur = cur;
-    s2.drain = drain;
-    s2.cycle.kind = numbers::cycle::IDLE;
-    s2.cands = cands;
-    Cut { state: s2, len: n }
+    announce(ep, p.restart, s.mem.peer_epoch, evidence, g.workers, log);
+    State {
+        mem: remember(s.mem, p.restart, due, evidence, k, spread, g.now),
+        cur: MayEpoch { some: true, ep },
+        drain: demote(old, p.restart, evidence, g.cfg, g.now),
+        cycle: Cycle {
+            kind: numbers::cycle::IDLE,
+            ..s.cycle
+        },
+        cands: prune(s.cands, evidence, g.profile.smaller),
+    }
 }

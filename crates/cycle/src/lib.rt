@@ -1,14 +1,18 @@
 // The rotation cycle: a kind beside the records of its cases (cycle.rs).
 //
 // The kind is a number of `numbers::cycle`; any other counts as idle. Only the record of the kind's own
-// case is part of the state.
+// case is part of the state. Each record is laid out as C does, so the kind and the wait stay numbers.
 #![tactic(auto)]
 
 ghost use Rattle.std.specs.Prelude.{◌≡◌};
+ghost use Rattle.numbers.specs.Cases.{at_idle, at_init, at_pend_i, at_pend_r, at_held, at_evidence, at_delay};
+ghost use Rattle.cycle.specs.Kind.{is_idle, is_init, is_pend_i, is_pend_r, waits_held, waits_evidence, waits_delay};
 ghost use Rattle.cycle.specs.Held.{is_own, is_peers};
 
 use epoch::{Epoch, Final, Index, MayLadder};
 use ladder::Ladder;
+use numbers::cycle::Stage;
+use numbers::wait::Wait;
 use time::When;
 
 // An own attempt in flight.
@@ -64,16 +68,41 @@ pub struct Cycle {
     pub pendr: PendR,
 }
 
-// Whether an own completed attempt is held under `tag`.
-pub fn is_own(c: Cycle, tag: u64) -> bool
-    ensures { result ≡ is_own c tag }
-{
-    epoch::is_tag(c.kind == numbers::cycle::PENDI, c.pendi.ep.tag, tag)
+impl PendI {
+    // What it waits for.
+    pub fn waits(&self) -> Wait
+        ensures held { waits_held self.now.wait ≡ at_held result }
+        ensures evidence { waits_evidence self.now.wait ≡ at_evidence result }
+        ensures delay { waits_delay self.now.wait ≡ at_delay result }
+    {
+        Wait::from(self.wait)
+    }
 }
 
-// Whether a peer's completed attempt is held under `tag`.
-pub fn is_peers(c: Cycle, tag: u64) -> bool
-    ensures { result ≡ is_peers c tag }
-{
-    epoch::is_tag(c.kind == numbers::cycle::PENDR, c.pendr.ep.tag, tag)
+impl Cycle {
+    // The kind of its case.
+    pub fn stage(&self) -> Stage
+        ensures init { is_init self.now.kind ≡ at_init result }
+        ensures pend_i { is_pend_i self.now.kind ≡ at_pend_i result }
+        ensures pend_r { is_pend_r self.now.kind ≡ at_pend_r result }
+        ensures idle { is_idle self.now.kind ≡ at_idle result }
+    {
+        Stage::from(self.kind)
+    }
+
+    // Whether an own completed attempt is held under `tag`.
+    #[tactic(auto, unfolding(crate::specs::Held::is_own, epoch::specs::Held::is_tag))]
+    pub fn is_own(&self, tag: u64) -> bool
+        ensures { result ≡ is_own self.now tag }
+    {
+        self.stage() == Stage::PendI && self.pendi.ep.tag == tag
+    }
+
+    // Whether a peer's completed attempt is held under `tag`.
+    #[tactic(auto, unfolding(crate::specs::Held::is_peers, epoch::specs::Held::is_tag))]
+    pub fn is_peers(&self, tag: u64) -> bool
+        ensures { result ≡ is_peers self.now tag }
+    {
+        self.stage() == Stage::PendR && self.pendr.ep.tag == tag
+    }
 }

@@ -2,10 +2,11 @@
 //
 // Every record here may be held by Rust, so each is laid out as C does. A case of the source's
 // `Option` is a flag beside the value; a two-valued enum is a flag. What stands behind a flag that
-// is off is no part of the state.
+// is off is no part of the state. So an epoch that is there or not has two records, and its test by a
+// tag takes the flag and the tag.
 #![tactic(auto)]
 
-ghost use Rattle.std.specs.Prelude.{◌≡◌};
+ghost use Rattle.std.specs.Prelude.{◌≡◌, is_some, IfSome};
 ghost use Rattle.epoch.specs.Held.{is_tag};
 
 use ladder::Ladder;
@@ -17,6 +18,21 @@ use time::When;
 pub struct Index {
     pub some: bool,
     pub index: u32,
+}
+
+impl Index {
+    pub const NONE: Index = Index {
+        some: false,
+        index: 0,
+    };
+
+    // The index, where there is one.
+    pub fn get(self) -> Option<u32>
+        ensures some { is_some result ≡ self.some }
+        ensures index { IfSome result (λ n. n ≡ self.index) }
+    {
+        self.some.then_some(self.index)
+    }
 }
 
 // The session indices of an epoch: this node's lease (its index), the peer's, and the transport
@@ -100,8 +116,9 @@ pub struct Drain {
 }
 
 // Whether something is held under `tag`.
+#[tactic(auto, unfolding(crate::specs::Held::is_tag))]
 pub fn is_tag(some: bool, held: u64, tag: u64) -> bool
     ensures { result ≡ is_tag some held tag }
 {
-    if some { held == tag } else { false }
+    some && held == tag
 }

@@ -1,20 +1,23 @@
 -- Laws of the events, of a log and what is read back from it, and of prompts withdrawn.
-use Rattle.std.specs.Prelude.{ℕ, ◌+◌, ◌*◌, zero, suc, ◌≤◌, ◌<◌, Bool, true, false, List, [], ◌∷◌, ◌++◌, map, ◌≡◌, refl, eqb, ltb, length, get_or, set}
-use Rattle.std.proofs.Common.{append_assoc, append-nil, sym, ◌∙◌, length-set, get_or-set_same, get_or-set_other, arith, add-one, zero-add, add-zero, lt-ltb}
+use Rattle.std.specs.Prelude.{ℕ, ◌+◌, ◌-◌, ◌*◌, zero, suc, ◌≤◌, ◌<◌, Bool, true, false, List, [], ◌∷◌, ◌++◌, map, ◌≡◌, refl, eqb, ltb, leb, min, length, get_or, set, take, drop}
+use Rattle.std.proofs.Common.{append_assoc, append-nil, sym, ◌∙◌, length-set, get_or-set_same, get_or-set_other, arith, add-one, zero-add, add-zero, lt-ltb, leb-true, leb-false}
 use Rattle.std.proofs.lemmas.List.{map-append}
 use Rattle.std.proofs.Math.Path.{ap}
 use Rattle.time.specs.Pick.{pick}
 use Rattle.time.specs.declared.When.{When}
 use Rattle.numbers.specs.Numbers.{bit, event_send, event_prompt, event_deliver, event_bind, event_unbind, event_delegate, event_revoke, event_release, event_installed, event_retired, event_reverted, event_peer_restarted, event_rekeyed, event_reject, event_abandoned, event_teardown, event_mark, event_start}
 use Rattle.events.specs.Events.{Abandoned, Bind, Delegate, Deliver, Ended, Event, Installed, Mark, PeerRestarted, Prompt, Reject, Rekeyed, Release, Retired, Reverted, Revoke, Send, Start, Teardown, Unbind, words_of}
-use Rattle.std.proofs.lemmas.List.Edits.{sets}
+use Rattle.std.proofs.lemmas.List.Edits.{sets, sets-eq, paste_all}
+use Rattle.std.proofs.lemmas.Slice.{put_mid-paste}
+use borrow.Rule.Slice.PartMut.{put_mid}
 use Rattle.std.proofs.Math.Seq.{length-sets}
+use Rattle.time.specs.Time.{least, none}
 use Rattle.time.specs.Laws.{least-left, least-le}
 use Rattle.time.specs.Lists.{range, range-next, range-end, fold}
 use Rattle.events.specs.Log.{Log, at, logged, pushed, stored, place_of, taken_of, places_of, held}
 use Rattle.std.proofs.Math.Nat.{sub-zero}
 use Rattle.events.specs.Queries.{any_from, any_of, offered_in, offers, word_of, words_offer}
-use Rattle.events.specs.Withdraw.{sealable, sifted, sifting, stays, withdrawn, words_stay}
+use Rattle.events.specs.Withdraw.{given, sealable, sifted, sifting, stays, withdrawn, words_stay}
 
 pub eight-words : (e : Event) → length (words_of e) ≡ 8
 eight-words (Send msg kind rungs) = refl
@@ -226,12 +229,31 @@ grows v w j h = under (ltb v.len 96)
     under true = omega arith
     under false = h
 
+-- a copy of eight words to the next place puts them in
+pub copied : (len : ℕ) (ws w w' : List ℕ) → len < 96 → length ws ≡ 768 → length w ≡ 8 → w' ≡ w → at (len + 1) (put_mid (len * 8) (len * 8 + 8 - len * 8) ws w') ≡ stored (at len ws) w
+unfolding at
+copied len ws w w' h k long e =
+    let n : 8 ≡ len * 8 + 8 - len * 8 = omega arith in
+    let r : put_mid (len * 8) (len * 8 + 8 - len * 8) ws w' ≡ sets ws (len * 8) w =
+    put_mid-paste (len * 8) (len * 8 + 8 - len * 8) ws w' w (length w) e (long ∙ n) refl
+    ∙ (paste_all ws (len * 8) w (length w) refl ∙ sym (sets-eq w ws (len * 8) (omega arith) ∙ append_assoc (take (len * 8) ws) w (drop (len * 8 + length w) ws))) in
+    ap (at (len + 1)) r ∙ sym (stored_at (at len ws) w h)
+
 -- ---- what is read back
 
 -- a length that is no more than there are places counts as itself
 pub held-taken : (v : Log) → v.len ≤ 96 → held v ≡ map (place_of v.words) (range 0 v.len)
 unfolding held places_of taken_of
 held-taken v h = rw (least-left h, sub-zero)
+
+-- the code takes the lesser of the two
+pub taken-min : (n : ℕ) → min n 96 ≡ taken_of n
+unfolding taken_of least
+taken-min n = under (leb n 96) refl
+  where
+    under : (t : Bool) → leb n 96 ≡ t → min n 96 ≡ pick t n 96
+    under true e = let h : n ≤ 96 = leb-true n 96 e in omega arith
+    under false e = let h : 96 < n = leb-false n 96 e in omega arith
 
 pub taken-most : (n : ℕ) → taken_of n ≤ 96
 unfolding taken_of
@@ -365,3 +387,11 @@ module _ (p : List ℕ → Bool) (n i : ℕ) (v : Log) where
 pub sifting-all : (cur pend : When) (len n : ℕ) (ws : List ℕ) → n ≡ taken_of len → sifting (words_stay cur pend) n 0 (at 0 ws) ≡ withdrawn cur pend (at len ws)
 unfolding sifting withdrawn at
 sifting-all cur pend len n ws e = rw (sub-zero, e)
+
+-- what stands behind an absent tag is not asked
+pub withdrawn-given : (a b : Bool) (x y : ℕ) (v : Log) → withdrawn (given a x) (given b y) v ≡ withdrawn (pick a (given a x) none) (pick b (given b y) none) v
+unfolding withdrawn sifted words_stay sealable
+withdrawn-given true true x y v = refl
+withdrawn-given true false x y v = refl
+withdrawn-given false true x y v = refl
+withdrawn-given false false x y v = refl

@@ -1,4 +1,5 @@
 pub mod Events
 pub mod Log
 pub mod Queries
+pub mod Told
 pub mod Withdraw

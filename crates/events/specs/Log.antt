@@ -6,7 +6,6 @@ use Rattle.time.specs.Pick.{pick}
 use Rattle.time.specs.Time.{least}
 use Rattle.time.specs.Lists.{range}
 use Rattle.events.specs.Events.{Event, words_of}
-use Rattle.events.specs.declared.Words.{Words}
 
 pub record Log : Type 0 where
   pub len : ℕ
@@ -60,7 +59,3 @@ places_of ws i n = map (place_of ws) (range i (n - i))
 -- what a log holds, in order
 unfoldable pub held : Log → List (List ℕ)
 held v = places_of v.words 0 (taken_of v.len)
-
--- the words as the code carries them
-abbrev pub list_of : Words → List ℕ
-list_of w = w.kind ∷ w.a ∷ w.b ∷ w.c ∷ w.d ∷ w.e ∷ w.f ∷ w.g ∷ []

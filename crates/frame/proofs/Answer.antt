@@ -8,7 +8,7 @@ use Rattle.settings.specs.declared.Config.{Config}
 use Rattle.state.specs.declared.State.{State}
 use Rattle.state.specs.declared.Profile.{Profile}
 use Rattle.events.specs.Log.{Appends}
-use Rattle.refusal.specs.declared.Refused.{Refused}
+use Rattle.refusal.specs.Refused.{Refused}
 use Rattle.answer.specs.declared.Answer.{Answer}
 use Rattle.answer.proofs.Laws.{written_all}
 use Rattle.answer.specs.Answers.{Answers, back_with, taken_with}

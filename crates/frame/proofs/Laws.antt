@@ -1,5 +1,5 @@
 -- Laws of a frame's answer.
-use Rattle.std.specs.Prelude.{ℕ, ◌≤◌, Bool, not, ◌≡◌, List, [], ◌∷◌, eqb, ℤ}
+use Rattle.std.specs.Prelude.{ℕ, ◌≤◌, Result, Err, Bool, not, ◌≡◌, List, [], ◌∷◌, eqb, ℤ}
 use Rattle.std.proofs.Math.Bool.{true, false}
 use Rattle.std.proofs.Math.Path.{refl, ap}
 use Rattle.std.proofs.Common.{◌∙◌, arith, ne_eqb}
@@ -9,7 +9,10 @@ use Rattle.settings.specs.declared.Config.{Config}
 use Rattle.numbers.specs.Numbers.{refused_slot, refused_tag}
 use Rattle.state.specs.declared.State.{State}
 use Rattle.state.specs.declared.Profile.{Profile}
-use Rattle.refusal.specs.Refusal.{first, by, numbered, given_tests, state_tests, frame_tests, before_frame}
+use Rattle.refusal.specs.declared.Refusal.{Refusal}
+use Rattle.refusal.specs.Refused.{Refused, refused_of}
+use Rattle.refusal.proofs.Parts.{failed}
+use Rattle.refusal.specs.Refusal.{accepted, first, by, numbered, given_tests, state_tests, frame_tests, before_frame}
 use Rattle.refusal.specs.First.{rising}
 use Rattle.refusal.proofs.First.{first-append}
 use Rattle.answer.specs.Outcome.{Outcome}
@@ -40,6 +43,19 @@ module _ (s : State) (cfg : Config) (profile : Profile) (spread : ℤ) where
   frame_refused_lem slot tag =
       first-append (frame_tests s cfg profile spread) (by refused_slot (slot_empty s slot) ∷ by refused_tag (other_tag s slot tag) ∷ []) 0 refl
       ∙ ap (λ r. pick (eqb (before_frame s cfg profile spread).number 0) r (before_frame s cfg profile spread)) (own-two slot tag)
+
+  -- one of 1 to 7, ..
+  pub refused_first :
+      (slot tag : ℕ) (e : Refusal) (q : Result (Unit {0}) Refusal) → q ≡ Err e → refused_of (Err e) ≡ before_frame s cfg profile spread
+      → refused_of q ≡ frame_refused s cfg profile spread slot tag
+  unfolding frame_refused heard_tests
+  refused_first slot tag e q h b = failed (frame_tests s cfg profile spread) (by refused_slot (slot_empty s slot) ∷ by refused_tag (other_tag s slot tag) ∷ []) e q h b
+
+  -- .. or what `frame_back` gives
+  pub refused_own :
+      (slot tag : ℕ) (q : Refused) → accepted ≡ before_frame s cfg profile spread → q ≡ numbered (frame_back s slot tag)
+      → q ≡ frame_refused s cfg profile spread slot tag
+  refused_own slot tag q b h = rw (frame_refused_lem slot tag, ← b) h
 
 module _ (s : State) (cfg : Config) (profile : Profile) (time : ℕ) (workers : Bool) (spread : ℤ) (p : FrameProof) (body : ℕ) (source target : List ℕ) where
   -- "No answer has more than 96": a frame has 16 at most

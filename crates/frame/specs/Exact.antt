@@ -2,7 +2,6 @@
 -- exactly where its sentence is the first to hold.
 use Rattle.std.specs.Prelude.{ℕ, ◌↔◌, ◌≡◌, List, [], ℤ}
 use Rattle.std.proofs.Math.Bool.{true, false}
-use Rattle.std.proofs.Math.Logic.Iff
 use Rattle.settings.specs.declared.Config.{Config}
 use Rattle.numbers.specs.Numbers.{refused_draw, refused_slot, refused_tag}
 use Rattle.state.specs.declared.State.{State}

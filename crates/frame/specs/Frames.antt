@@ -5,7 +5,7 @@ use Rattle.settings.specs.declared.Config.{Config}
 use Rattle.numbers.specs.Numbers.{refused_slot, refused_tag}
 use Rattle.state.specs.declared.State.{State}
 use Rattle.state.specs.declared.Profile.{Profile}
-use Rattle.refusal.specs.declared.Refused.{Refused}
+use Rattle.refusal.specs.Refused.{Refused}
 use Rattle.refusal.specs.Refusal.{Test, first, by, frame_tests}
 use Rattle.answer.specs.Outcome.{Outcome, done, outcome_by}
 use Rattle.frame_hear.specs.Hear.{given_of}

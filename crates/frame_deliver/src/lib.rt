@@ -1,58 +1,45 @@
 // The plaintext of a frame goes to the place that its delivery names: `deliver` of machine.rs.
 #![tactic(auto)]
 
-ghost use Rattle.std.specs.Prelude.{◌≡◌, ◌+◌, ◌≤◌, length};
-ghost use Rattle.std.proofs.Math.Seq.{paste};
-ghost use Rattle.events.specs.Log.{Appends};
+ghost use Rattle.std.specs.Prelude.{◌≡◌, ◌≤◌, ◌+◌, Bool};
+ghost use Rattle.numbers.specs.Cases.{slot_no};
+ghost use Rattle.events.specs.Told.{Tells};
 ghost use Rattle.frame_deliver.specs.Deliver.{reaches as reaches_of, deliver_out, deliver_into};
 
-// The source's first `n` bytes go to the target from `body` on.
-fn copy(source: &[u8], target: &mut [u8], body: usize, n: usize)
-    requires { (n ≤ length source.now) × (body + n ≤ length target.old) }
-    ensures { target.new ≡ paste target.old body source.now n }
-{
-    let mut i: usize = 0;
-    while i < n {
-        target[body + i] = source[i];
-        i += 1;
-    }
-}
+use events::Log;
+use numbers::reason::Reason;
+use numbers::slot::Slot;
 
 // Whether `n` bytes are not below the floor and both buffers, of these lengths, reach.
+#[tactic(auto, using(crate::proofs::Laws::room_left), unfolding(crate::specs::Deliver::reaches))]
 fn reaches(body: usize, n: usize, floor: u64, source: usize, target: usize) -> bool
-    ensures { result ≡ reaches_of body n floor source target }
+    ensures value { result ≡ reaches_of body n floor source target }
+    ensures room { result ≡ Bool.true → (n ≤ source) × (body + n ≤ target) }
 {
-    if (n as u64) < floor {
-        return false;
-    }
-    if source < n {
-        return false;
-    }
-    if target < body {
-        return false;
-    }
-    n <= target - body
+    floor <= n as u64 && n <= source && body <= target && n <= target - body
 }
 
 // The plaintext is put into the frame's buffer and delivered, unless it is shorter than the layer's
 // floor or a buffer is too short: then no byte changes.
+#[tactic(auto, unfolding(crate::specs::Deliver::deliver_out, crate::specs::Deliver::deliver_into))]
 pub fn deliver(
-    slot: u64,
+    slot: Slot,
     tag: u64,
     body: usize,
     n: usize,
     floor: u64,
     source: &[u8],
     target: &mut [u8],
-    log: &mut [u64; 768],
-    len: usize,
-) -> usize
-    ensures { (target.new ≡ deliver_into body n floor source.now target.old) × (Appends (deliver_out slot tag body n floor source.now target.old) len log.old result log.new) }
+    log: &mut Log,
+)
+    ensures target { target.new ≡ deliver_into body n floor source.now target.old }
+    ensures told { Tells (deliver_out (slot_no slot) tag body n floor source.now target.old) log.old log.new }
 {
     if reaches(body, n, floor, source.len(), target.len()) {
-        copy(source, target, body, n);
-        events::deliver(log, len, slot, tag, body as u64, (body + n) as u64)
+        let end = body + n;
+        target[body..end].copy_from_slice(&source[..n]);
+        log.deliver(slot, tag, body as u64, end as u64);
     } else {
-        events::reject(log, len, numbers::reason::SHORT_PLAINTEXT)
+        log.reject(Reason::ShortPlaintext);
     }
 }

@@ -20,19 +20,18 @@ use Rattle.candidates.specs.declared.Candidates.{Candidates}
 use Rattle.candidates.specs.Held.{cleared_of, kept_after}
 use Rattle.state.specs.declared.Memory.{Memory}
 use Rattle.events.specs.Events.{Event, Prompt, no_rungs}
-use Rattle.events.specs.Log.{Appends}
+use Rattle.events.specs.Told.{Tells}
+use Rattle.events.specs.declared.Log.{Log}
 use Rattle.time.specs.Pick.{and}
-use Rattle.frame_evidence.specs.declared.Prompted.{Prompted}
 
 -- what hearing leaves of an epoch
 pub record EpochStep : Type 0 where
   pub ep : Epoch
   pub out : List Event
 
--- what a function promises that changes an epoch so: the epoch, and its events behind the `len` that were
--- in the log
-abbrev pub Did : EpochStep → ℕ → List ℕ → Prompted → List ℕ → Type 0
-Did t len ws r ws' = (r.ep ≡ t.ep) × Appends t.out len ws r.len ws'
+-- what a function promises that changes an epoch so: the epoch, and its events behind those of the log
+abbrev pub Did : EpochStep → Log → Epoch → Log → Type 0
+Did t l r l' = (r ≡ t.ep) × Tells t.out l l'
 
 -- ---- an epoch with one of its parts changed
 

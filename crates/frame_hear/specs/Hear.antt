@@ -11,12 +11,12 @@ use Rattle.state.specs.declared.Profile.{Profile}
 use Rattle.state.specs.declared.Given.{Given}
 use Rattle.state.specs.Parts.{put_mem, put_cur, put_cycle}
 use Rattle.events.specs.Events.{Event, Prompt, Reverted, no_rungs}
-use Rattle.events.specs.Log.{Appends}
+use Rattle.events.specs.Told.{Tells}
+use Rattle.events.specs.declared.Log.{Log}
 use Rattle.retire.specs.Retire.{abandon_out}
 use Rattle.grace.specs.Grace.{grace}
 use Rattle.cutover.specs.Cutover.{heard_frame}
 use Rattle.frame_evidence.specs.Evidence.{blind_to, moves_now, heard_cands, shortened, prompted_now, stayed_now, heard_epoch, reverted_pend, heard_any, only_assumed, confirming}
-use Rattle.frame_hear.specs.declared.Heard.{Heard}
 
 -- "what a poll takes except the extra": it is 0, and no row of hearing reads it
 unfoldable pub given_of : Config → Profile → ℕ → Bool → Given
@@ -27,9 +27,9 @@ pub record HearStep : Type 0 where
   pub state : State
   pub out : List Event
 
--- what a function promises that hears so: its state, and its events behind the `len` that were in the log
-abbrev pub Did : HearStep → ℕ → List ℕ → Heard → List ℕ → Type 0
-Did t len ws r ws' = (r.state ≡ t.state) × Appends t.out len ws r.len ws'
+-- what a function promises that hears so: its state, and its events behind those of the log
+abbrev pub Did : HearStep → Log → State → Log → Type 0
+Did t l r l' = (r ≡ t.state) × Tells t.out l l'
 
 -- ---- `heard_current`
 

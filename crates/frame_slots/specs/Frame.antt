@@ -11,14 +11,14 @@ use Rattle.cycle.specs.Kind.{is_pend_i, is_pend_r}
 use Rattle.state.specs.declared.State.{State}
 use Rattle.state.specs.declared.Given.{Given}
 use Rattle.events.specs.Events.{Event, Mark, Ended}
-use Rattle.events.specs.Log.{Appends}
+use Rattle.events.specs.Told.{Tells}
+use Rattle.events.specs.declared.Log.{Log}
 use Rattle.retire.specs.Retire.{only}
 use Rattle.time.specs.Pick.{and}
 use Rattle.cutover.specs.declared.Pend.{Pend}
 use Rattle.cutover.specs.Cutover.{cutover_of}
 use Rattle.frame_hear.specs.Hear.{heard_current, heard_previous}
 use Rattle.frame_slots.specs.declared.FrameProof.{FrameProof}
-use Rattle.frame_slots.specs.declared.Framed.{Framed}
 use Rattle.frame_deliver.specs.Deliver.{deliver_out, deliver_into}
 
 -- what a frame leaves: the state, the target buffer and the events
@@ -27,10 +27,10 @@ pub record FrameStep : Type 0 where
   pub target : List ℕ
   pub out : List Event
 
--- what a function promises that takes a frame so: its state, the target's bytes, and its events behind the
--- `len` that were in the log
-abbrev pub Did : FrameStep → List ℕ → ℕ → List ℕ → Framed → List ℕ → Type 0
-Did t target len ws r ws' = (r.state ≡ t.state) × ((target ≡ t.target) × Appends t.out len ws r.len ws')
+-- what a function promises that takes a frame so: its state, the target's bytes, and its events behind
+-- those of the log
+abbrev pub Did : FrameStep → List ℕ → Log → State → Log → Type 0
+Did t target l r l' = (r ≡ t.state) × ((target ≡ t.target) × Tells t.out l l')
 
 -- ---- refusals 8 and 9
 

@@ -2,15 +2,23 @@
 #![tactic(auto)]
 
 ghost use Rattle.std.specs.Prelude.{◌≡◌};
-ghost use Rattle.events.specs.Log.{Appends};
+ghost use Rattle.time.specs.Options.{option_of};
+ghost use Rattle.events.specs.Told.{Tells};
+ghost use Rattle.refusal.specs.Refused.{refused_of};
 ghost use Rattle.frame_slots.specs.Frame.{Did, pending_tag, slot_tag, frame_back, ended_out, pend_of, pending_frame, current_frame, previous_frame, frame_of};
 
 use cutover::Pend;
 use cycle::Cycle;
+use epoch::{Epoch, Final};
+use events::Log;
+use numbers::cycle::Stage;
+use numbers::evidence::Evidence;
+use numbers::slot::Slot;
+use refusal::Refusal;
 use state::{Given, State};
-use time::When;
 
 // A frame that authenticated under one held epoch, by its slot (`numbers::slot`), and passed its window.
+// It crosses to C, so the slot is a number.
 #[repr(C)]
 #[derive(Clone, Copy)]
 pub struct FrameProof {
@@ -23,112 +31,79 @@ pub struct FrameProof {
     pub probe: bool,
 }
 
-// What a frame leaves: the state, and how long the log is.
-#[derive(Clone, Copy)]
-pub struct Framed {
-    pub state: State,
-    pub len: usize,
-}
-
 // The pending epoch's tag, in either role.
-fn pending_tag(c: Cycle) -> When
-    ensures { result ≡ pending_tag c }
+#[tactic(auto, unfolding(crate::specs::Frame::pending_tag))]
+fn pending_tag(c: &Cycle) -> Option<u64>
+    ensures { result ≡ option_of (pending_tag c.now) }
 {
-    if c.kind == numbers::cycle::PENDI {
-        When {
-            some: true,
-            at: c.pendi.ep.tag,
-        }
-    } else {
-        if c.kind == numbers::cycle::PENDR {
-            When {
-                some: true,
-                at: c.pendr.ep.tag,
-            }
-        } else {
-            When { some: false, at: 0 }
-        }
+    match c.stage() {
+        Stage::PendI => Some(c.pendi.ep.tag),
+        Stage::PendR => Some(c.pendr.ep.tag),
+        Stage::Idle | Stage::Init => None,
     }
 }
 
 // The tag of the epoch that a slot holds.
-fn slot_tag(s: State, slot: u8) -> When
-    ensures { result ≡ slot_tag s slot }
+#[tactic(auto, unfolding(crate::specs::Frame::slot_tag))]
+fn slot_tag(s: &State, slot: u8) -> Option<u64>
+    ensures { result ≡ option_of (slot_tag s.now slot) }
 {
-    if slot == numbers::slot::CURRENT {
-        When {
-            some: s.cur.some,
-            at: s.cur.ep.tag,
-        }
-    } else {
-        if slot == numbers::slot::PENDING {
-            pending_tag(s.cycle)
-        } else {
-            if slot == numbers::slot::PREVIOUS {
-                When {
-                    some: s.drain.some,
-                    at: s.drain.ep.tag,
-                }
-            } else {
-                When { some: false, at: 0 }
-            }
-        }
+    match Slot::of(slot) {
+        Some(Slot::Current) => s.cur.some.then_some(s.cur.ep.tag),
+        Some(Slot::Pending) => pending_tag(&s.cycle),
+        Some(Slot::Previous) => s.drain.some.then_some(s.drain.ep.tag),
+        None => None,
     }
 }
 
-// `SLOT` where the slot holds no epoch, `TAG` where the tag is not that epoch's, else 0.
-pub fn frame_back(s: State, slot: u8, tag: u64) -> u8
-    ensures { result ≡ frame_back s slot tag }
+// Sent back where the slot holds no epoch, or where the tag is not that epoch's.
+#[tactic(auto, unfolding(crate::specs::Frame::frame_back))]
+pub fn frame_back(s: &State, slot: u8, tag: u64) -> Result<(), Refusal>
+    ensures { refused_of result ≡ record { number = frame_back s.now slot tag; place = 0 } }
 {
-    let held = slot_tag(s, slot);
-    if held.some {
-        if held.at == tag {
-            0
-        } else {
-            numbers::refused::TAG
-        }
-    } else {
-        numbers::refused::SLOT
+    match slot_tag(s, slot) {
+        Some(held) if held == tag => Ok(()),
+        Some(_) => Err(Refusal::Tag),
+        None => Err(Refusal::Slot),
     }
 }
 
 // A pending epoch whose answer is held ends with it in the replay record.
-fn end_pending(c: Cycle, log: &mut [u64; 768], len: usize) -> usize
-    ensures { Appends (ended_out c) len log.old result log.new }
+#[tactic(auto, unfolding(crate::specs::Frame::ended_out))]
+fn end_pending(c: Cycle, log: &mut Log)
+    ensures { Tells (ended_out c) log.old log.new }
 {
-    if time::and(c.kind == numbers::cycle::PENDR, c.pendr.answer.some) {
-        events::ended(log, len, c.pendr.ep.tag)
-    } else {
-        len
+    if c.stage() == Stage::PendR && c.pendr.answer.some {
+        log.ended(c.pendr.ep.tag);
     }
 }
 
 // The pending epoch taken out of its cycle: the frame that adopts a responder's fixes its key bit.
+#[tactic(auto, unfolding(crate::specs::Frame::pend_of))]
 fn pend_of(c: Cycle, k: bool) -> Pend
     ensures { result ≡ pend_of c k }
 {
-    if c.kind == numbers::cycle::PENDR {
-        let mut ep = c.pendr.ep;
-        ep.k = k;
-        let mut fin = c.pendr.ep.fin;
-        fin.some = false;
+    if c.stage() == Stage::PendR {
+        let ep = c.pendr.ep;
         Pend {
-            ep: ep,
+            ep: Epoch { k, ..ep },
             restart: c.pendr.restart,
-            fin: fin,
+            fin: Final {
+                some: false,
+                ..ep.fin
+            },
         }
     } else {
-        let ep = c.pendi.ep;
-        let fin = c.pendi.fin;
         Pend {
-            ep: ep,
+            ep: c.pendi.ep,
             restart: c.pendi.restart,
-            fin: fin,
+            fin: c.pendi.fin,
         }
     }
 }
 
 // A frame under the pending epoch makes it current.
+#[tactic(auto, using(retire::proofs::Told::tells_then), unfolding(crate::specs::Frame::pending_frame))]
 fn frame_pending(
     s: State,
     g: Given,
@@ -137,33 +112,29 @@ fn frame_pending(
     body: usize,
     source: &[u8],
     target: &mut [u8],
-    log: &mut [u64; 768],
-    len: usize,
-) -> Framed
-    ensures { Did (pending_frame s g spread p body source.now target.old) target.new len log.old result log.new }
+    log: &mut Log,
+) -> State
+    ensures { Did (pending_frame s g spread p body source.now target.old) target.new log.old result log.new }
 {
-    let a = end_pending(s.cycle, log, len);
+    end_pending(s.cycle, log);
     let pend = pend_of(s.cycle, p.k);
-    let cut = cutover::cutover(s, g, spread, pend, numbers::evidence::FRAME, p.k, log, a);
-    let n = frame_deliver::deliver(
-        numbers::slot::CURRENT as u64,
+    let state = cutover::cutover(s, g, spread, pend, Evidence::Frame, p.k, log);
+    let floor = g.profile.floor;
+    frame_deliver::deliver(
+        Slot::Current,
         pend.ep.tag,
         body,
         p.len,
-        g.profile.floor,
+        floor,
         source,
         target,
         log,
-        cut.len,
     );
-    let state = cut.state;
-    Framed {
-        state: state,
-        len: n,
-    }
+    state
 }
 
 // A frame under the current epoch.
+#[tactic(auto, using(retire::proofs::Told::tells_then), unfolding(crate::specs::Frame::current_frame))]
 fn frame_current(
     s: State,
     g: Given,
@@ -171,31 +142,26 @@ fn frame_current(
     body: usize,
     source: &[u8],
     target: &mut [u8],
-    log: &mut [u64; 768],
-    len: usize,
-) -> Framed
-    ensures { Did (current_frame s g p body source.now target.old) target.new len log.old result log.new }
+    log: &mut Log,
+) -> State
+    ensures { Did (current_frame s g p body source.now target.old) target.new log.old result log.new }
 {
-    let a = frame_deliver::deliver(
-        numbers::slot::CURRENT as u64,
+    let floor = g.profile.floor;
+    frame_deliver::deliver(
+        Slot::Current,
         p.tag,
         body,
         p.len,
-        g.profile.floor,
+        floor,
         source,
         target,
         log,
-        len,
     );
-    let h = frame_hear::heard_current(s, g, p.k, p.probe, log, a);
-    let state = h.state;
-    Framed {
-        state: state,
-        len: h.len,
-    }
+    frame_hear::heard_current(s, g, p.k, p.probe, log)
 }
 
 // A frame under the previous epoch.
+#[tactic(auto, using(retire::proofs::Told::tells_then), unfolding(crate::specs::Frame::previous_frame))]
 fn frame_previous(
     s: State,
     g: Given,
@@ -203,31 +169,26 @@ fn frame_previous(
     body: usize,
     source: &[u8],
     target: &mut [u8],
-    log: &mut [u64; 768],
-    len: usize,
-) -> Framed
-    ensures { Did (previous_frame s g p body source.now target.old) target.new len log.old result log.new }
+    log: &mut Log,
+) -> State
+    ensures { Did (previous_frame s g p body source.now target.old) target.new log.old result log.new }
 {
-    let a = frame_deliver::deliver(
-        numbers::slot::PREVIOUS as u64,
+    let floor = g.profile.floor;
+    frame_deliver::deliver(
+        Slot::Previous,
         p.tag,
         body,
         p.len,
-        g.profile.floor,
+        floor,
         source,
         target,
         log,
-        len,
     );
-    let h = frame_hear::heard_previous(s, g, log, a);
-    let state = h.state;
-    Framed {
-        state: state,
-        len: h.len,
-    }
+    frame_hear::heard_previous(s, g, log)
 }
 
 // A frame that no refusal sends back.
+#[tactic(auto, using(retire::proofs::Told::tells_then), unfolding(crate::specs::Frame::frame_of, crate::specs::Frame::slot_frame))]
 pub fn frame_accepted(
     s: State,
     g: Given,
@@ -236,19 +197,14 @@ pub fn frame_accepted(
     body: usize,
     source: &[u8],
     target: &mut [u8],
-    log: &mut [u64; 768],
-    len: usize,
-) -> Framed
-    ensures { Did (frame_of s g spread p body source.now target.old) target.new len log.old result log.new }
+    log: &mut Log,
+) -> State
+    ensures { Did (frame_of s g spread p body source.now target.old) target.new log.old result log.new }
 {
-    let a = events::mark(log, len, p.tag, p.counter);
-    if p.slot == numbers::slot::PENDING {
-        frame_pending(s, g, spread, p, body, source, target, log, a)
-    } else {
-        if p.slot == numbers::slot::CURRENT {
-            frame_current(s, g, p, body, source, target, log, a)
-        } else {
-            frame_previous(s, g, p, body, source, target, log, a)
-        }
+    log.mark(p.tag, p.counter);
+    match Slot::of(p.slot) {
+        Some(Slot::Pending) => frame_pending(s, g, spread, p, body, source, target, log),
+        Some(Slot::Current) => frame_current(s, g, p, body, source, target, log),
+        Some(Slot::Previous) | None => frame_previous(s, g, p, body, source, target, log),
     }
 }

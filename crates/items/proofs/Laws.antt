@@ -1,92 +1,109 @@
--- Laws of the arrays, for the loops and for callers.
-use Prim.Native.Nat.{ℕ, zero, suc, ◌≤◌, ◌<◌, ◌+◌, ◌-◌}
-use Rattle.std.specs.Prelude.{Bool, true, false, ◌≡◌, refl, List, [], ◌∷◌, ◌++◌, map, set}
-use Rattle.std.proofs.Common.{sym, ◌∙◌, zero-add, add-zero, take-suc, drop_at, get_or-drop, get_or-append-add, get_or-set_same, get_or-set_other}
-use Rattle.std.proofs.Math.Path.{ap, ap₂}
-use Rattle.std.proofs.lemmas.List.{map-append, set_split}
-use Rattle.std.proofs.Math.Nat.{sub-zero}
-use Rattle.std.proofs.Math.Numerals.{add-one}
-use native.Mathlib.Omega.{arith}
-use Rattle.std.proofs.Math.ListN.{length, get_or, take, drop, length-map, get_or-append}
-use Rattle.std.proofs.Math.Seq.{slice, append_snoc, get_or_at, get_or-take, length-take-le, take-set-le, slice_empty, length-slice, drop-append-le}
+-- Laws of the two lists, for their methods.
+use Rattle.std.specs.Prelude.{ℕ, suc, ◌≤◌, ◌<◌, ◌+◌, ◌-◌, Bool, true, false, ◌||◌, ◌≡◌, refl, List, [], ◌∷◌, ◌++◌, map, take, drop, length, set, get_or, ◌&&◌, Option, Some, None, cond, ltb, eqb}
+use Rattle.std.specs.List.{copy_within, position_from, list_any, take-map, drop-map}
+use Rattle.std.specs.Option.{unwrap_or}
+use Rattle.std.specs.Ordering.{partial_ordering_then, nat_cmp, is_lt, is_some_and}
+use Rattle.std.proofs.Common.{Ordering, Less, Equal, Greater, sym, ◌∙◌, ap, ap₂, arith, eqb-true, ltb-true, lt-ltb, add-one, append_assoc, take_all}
+use Rattle.std.proofs.Math.Seq.{take-suc, append_snoc, take-set-lt}
+use Rattle.std.proofs.lemmas.List.{length-map, length-take-le, length-drop, length-append, map-append, take-take, drop-take, set_at}
+use Rattle.std.proofs.lemmas.List.Edits.{take-paste}
+use denote.Enum.Bare.{sameb}
+use denote.Enum.Declared.{tag_of}
+use Rattle.numbers.specs.contracts.item.Kind.{the_type}
+use Rattle.numbers.specs.declared.item.Kind.{Kind}
+use Rattle.numbers.specs.declared.item.Kind.TheVariants as kind
 use Rattle.time.specs.Pick.{pick}
-use Rattle.time.specs.Lists.{range, range-next, range-end, range-more, length-range}
-use Rattle.time.specs.Time.{least}
-use Rattle.time.specs.Laws.{least-left}
-use Rattle.items.specs.Items.{Item, before, insert, names, listed_in, untimed}
-use Rattle.items.specs.Arrays.{most, most_listed, item_at, items_from, items_of, place_for, opened, list_at, list_from, list_of, Wide}
+use Rattle.numbers.specs.Cases.{kind_no}
+use Rattle.items.specs.declared.Due.{Due}
+use Rattle.items.specs.declared.Item.{Item as Timed}
+use Rattle.items.specs.Items.{Item, less_by, before, insert, names, listed_in, untimed}
+use Rattle.items.specs.Arrays.{most_listed, item_of, due_of, place_for}
 
--- ---- ranges
+-- as many items as are held
+pub length-held : {A B : Type 0} (f : A → B) (l : List A) (v : List B) (n : ℕ) → n ≤ length l → map f (take n l) ≡ v → n ≡ length v
+length-held f l v n h e = sym (length-take-le n l h) ∙ (sym (length-map (take n l) f) ∙ ap length e)
 
-range_split : (j i n : ℕ) → i ≤ n → range j n ≡ range j i ++ range (j + i) (n - i)
-unfolding range
-range_split j zero n h = ap₂ range (sym (add-zero j)) (sym (sub-zero n))
-range_split j (suc i) zero h = absurd (omega arith)
-range_split j (suc i) (suc n) h =
-    let a : j + 1 + i ≡ j + suc i = omega arith in
-    let b : n - i ≡ suc n - suc i = omega arith in
-    ap (λ l. j ∷ l) (range_split (j + 1) i n (omega arith) ∙ ap₂ (λ p q. range (j + 1) i ++ range p q) a b)
+-- ---- the order
 
--- what two readings of places give is the same where each place is
-map_range : {A : Type 0} (f g : ℕ → A) (j k n : ℕ) → ((d : ℕ) → d < n → f (j + d) ≡ g (k + d)) → map f (range j n) ≡ map g (range k n)
-unfolding range
-map_range f g j k zero h = refl
-map_range f g j k (suc n) h =
-    ap₂ (λ x l. x ∷ l)
-    (ap f (sym (add-zero j)) ∙ (h 0 (omega arith) ∙ ap g (add-zero k)))
-    (map_range f g (j + 1) (k + 1) n (λ d b.
-    let p : j + 1 + d ≡ j + suc d = omega arith in
-    let q : k + 1 + d ≡ k + suc d = omega arith in
-    ap f p ∙ (h (suc d) (omega arith) ∙ ap g (sym q))))
+then-assoc : (a b c : Option Ordering) → partial_ordering_then (partial_ordering_then a b) c ≡ partial_ordering_then a (partial_ordering_then b c)
+then-assoc None b c = refl
+then-assoc (Some Less) b c = refl
+then-assoc (Some Equal) b c = refl
+then-assoc (Some Greater) b c = refl
 
--- ---- a place opened in an array
+-- one number more in front of what decides
+then-less : (a b : ℕ) (o : Option Ordering) (t : Bool) → is_some_and is_lt o ≡ t → is_some_and is_lt (partial_ordering_then (Some (nat_cmp a b)) o) ≡ less_by a b t
+then-less a b o t e = under (ltb a b) (eqb a b) refl refl
+  where
+    under : (p q : Bool) → ltb a b ≡ p → eqb a b ≡ q → is_some_and is_lt (partial_ordering_then (Some (cond p Less (cond q Equal Greater))) o) ≡ pick q t p
+    under true true p q =
+        let u : a < b = ltb-true a b p in
+        let v : a ≡ b = eqb-true a b q in
+        absurd (omega arith)
+    under true false p q = refl
+    under false true p q = e
+    under false false p q = refl
 
-module _ (i n x : ℕ) (l : List ℕ) where
-  pub opened-step : i < n → n < length l → opened i n x l ≡ opened i (n - 1) x (set l n (get_or l (n - 1) 0))
-  unfolding opened
-  opened-step h k =
-      let v : ℕ = get_or l (n - 1) 0 in
-      let m : n ≡ suc (n - 1) = omega arith in
-      let e : n - 1 + 1 ≡ n = omega arith in
-      let s : slice i n l ≡ slice i (n - 1) l ++ (v ∷ []) =
-      ap (λ j. drop i (take j l)) m
-      ∙ (ap (drop i) (take-suc l (n - 1) 0 (omega arith))
-      ∙ drop-append-le i (take (n - 1) l) (v ∷ []) (rw (length-take-le (n - 1) l (omega arith)) (omega arith))) in
-      let d : drop n (set l n v) ≡ v ∷ drop (n + 1) l =
-      rw (set_split l n v k, add-one n) (drop_at (take n l) (v ∷ drop (suc n) l) n (length-take-le n l (omega arith))) in
-      ap (λ r. take i l ++ (x ∷ (r ++ drop (n + 1) l))) s
-      ∙ (ap (λ r. take i l ++ (x ∷ r)) (append_snoc (slice i (n - 1) l) v (drop (n + 1) l))
-      ∙ rw (e, d, take-set-le i l n v (omega arith), take-set-le (n - 1) l n v (omega arith)))
+last-less : (a b : ℕ) → is_some_and is_lt (Some (nat_cmp a b)) ≡ ltb a b
+last-less a b = under (ltb a b) (eqb a b)
+  where
+    under : (p q : Bool) → is_some_and is_lt (Some (cond p Less (cond q Equal Greater))) ≡ p
+    under true q = refl
+    under false true = refl
+    under false false = refl
 
-  pub opened-done : n ≤ i → i ≤ n → i < length l → opened i n x l ≡ set l i x
-  unfolding opened
-  opened-done h k b =
-      let e : n ≡ i = omega arith in
-      rw (e, slice_empty i l, add-one i) (sym (set_split l i x b))
-
-  opened-below : (j : ℕ) → i ≤ n → n < length l → j < i → get_or (opened i n x l) j 0 ≡ get_or l j 0
-  unfolding opened
-  opened-below j h k b =
-      get_or-append (take i l) (x ∷ (slice i n l ++ drop (n + 1) l)) 0 j (rw (length-take-le i l (omega arith)) b)
-      ∙ get_or-take i l j 0 b
-
-  opened-here : i ≤ n → n < length l → get_or (opened i n x l) i 0 ≡ x
-  unfolding opened
-  opened-here h k = get_or_at (take i l) x (slice i n l ++ drop (n + 1) l) 0 i (length-take-le i l (omega arith))
-
-  opened-above : (d : ℕ) → i ≤ n → n < length l → d < n - i → get_or (opened i n x l) (i + 1 + d) 0 ≡ get_or l (i + d) 0
-  unfolding opened
-  opened-above d h k b =
-      let t : length (take i l) ≡ i = length-take-le i l (omega arith) in
-      let e : i + 1 + d ≡ length (take i l) + suc d = rw t (omega arith) in
-      ap (λ q. get_or (take i l ++ (x ∷ (slice i n l ++ drop (n + 1) l))) q 0) e
-      ∙ (get_or-append-add (take i l) (x ∷ (slice i n l ++ drop (n + 1) l)) (suc d) 0
-      ∙ (get_or-append (slice i n l) (drop (n + 1) l) 0 d (rw (length-slice i n l (omega arith)) b)
-      ∙ (get_or-drop i (take n l) d 0 ∙ get_or-take n l (i + d) 0 (omega arith))))
+-- three numbers in order decide as `before` does
+pub three-less : (a b k l x y : ℕ) → is_some_and is_lt (partial_ordering_then (partial_ordering_then (Some (nat_cmp a b)) (Some (nat_cmp k l))) (Some (nat_cmp x y))) ≡ less_by a b (less_by k l (ltb x y))
+three-less a b k l x y =
+    ap (is_some_and is_lt) (then-assoc (Some (nat_cmp a b)) (Some (nat_cmp k l)) (Some (nat_cmp x y)))
+    ∙ then-less a b (partial_ordering_then (Some (nat_cmp k l)) (Some (nat_cmp x y))) (less_by k l (ltb x y)) (then-less k l (Some (nat_cmp x y)) (ltb x y) (last-less x y))
 
 -- ---- an item put in its place
 
-place-most : (x : Item) (l : List Item) → place_for x l ≤ length l
+-- the first place whose item x comes before, or the end
+place-from : (x : Item) (l : List Timed) (n m : ℕ) → m ≡ n + length l → unwrap_or (position_from (λ y. before x (item_of y)) n l) m ≡ n + place_for x (map item_of l)
+unfolding place_for
+place-from x [] n m e = e
+place-from x (y ∷ l) n m e = under (before x (item_of y)) (place-from x l (n + 1) m (omega arith))
+  where
+    under : (q : Bool) → unwrap_or (position_from (λ z. before x (item_of z)) (n + 1) l) m ≡ n + 1 + place_for x (map item_of l) → unwrap_or (cond q (Some n) (position_from (λ z. before x (item_of z)) (n + 1) l)) m ≡ n + pick q 0 (suc (place_for x (map item_of l)))
+    under true rest = omega arith
+    under false rest = rest ∙ omega arith
+
+pub place-first : (x : Item) (l : List Timed) → unwrap_or (position_from (λ y. before x (item_of y)) 0 l) (length l) ≡ place_for x (map item_of l)
+place-first x l = place-from x l 0 (length l) (omega arith) ∙ omega arith
+
+-- what stands at place i of n and after it moved up by one, and x put there
+opened : {A : Type 0} (l : List A) (i n : ℕ) (x : A) → i ≤ n → n < length l → take (n + 1) (set (copy_within l i n (i + 1)) i x) ≡ take i (take n l) ++ (x ∷ drop i (take n l))
+opened l i n x h k =
+    let moved : take (n + 1) (copy_within l i n (i + 1)) ≡ take (i + 1) l ++ take (n - i) (drop i l) =
+    ap (λ m. take m (copy_within l i n (i + 1))) count ∙ take-paste l (i + 1) (drop i l) (n - i) (omega arith) (rw (length-drop i l) (omega arith)) in
+    let first : take (i + 1) l ++ take (n - i) (drop i l) ≡ take i l ++ (get_or l i x ∷ take (n - i) (drop i l)) =
+    ap (λ m. take m l ++ take (n - i) (drop i l)) (add-one i)
+    ∙ (ap (λ r. r ++ take (n - i) (drop i l)) (take-suc l i x (omega arith))
+    ∙ append_snoc (take i l) (get_or l i x) (take (n - i) (drop i l))) in
+    let rest : take (n - i) (drop i l) ≡ drop i (take n l) = sym (ap (λ m. drop i (take m l)) total ∙ drop-take i (n - i) l) in
+    take-set-lt (n + 1) (copy_within l i n (i + 1)) i x (omega arith)
+    ∙ (ap (λ r. set r i x) (moved ∙ first)
+    ∙ (set_at (take i l) (get_or l i x) (take (n - i) (drop i l)) x i (length-take-le i l (omega arith))
+    ∙ ap₂ (λ p q. p ++ (x ∷ q)) (sym (take-take i n l h)) rest))
+  where
+    count : n + 1 ≡ i + 1 + (n - i)
+    count = omega arith
+
+    total : n ≡ i + (n - i)
+    total = omega arith
+
+pub insert-place : (x : Item) (l : List Item) → insert x l ≡ take (place_for x l) l ++ (x ∷ drop (place_for x l) l)
+unfolding insert place_for
+insert-place x [] = refl
+insert-place x (y ∷ l) = under (before x y) (insert-place x l)
+  where
+    under : (q : Bool) → insert x l ≡ take (place_for x l) l ++ (x ∷ drop (place_for x l) l) → pick q (x ∷ y ∷ l) (y ∷ insert x l) ≡ take (pick q 0 (suc (place_for x l))) (y ∷ l) ++ (x ∷ drop (pick q 0 (suc (place_for x l))) (y ∷ l))
+    under true rest = refl
+    under false rest = ap (λ r. y ∷ r) rest
+
+pub place-most : (x : Item) (l : List Item) → place_for x l ≤ length l
 unfolding place_for
 place-most x [] = omega arith
 place-most x (y ∷ l) = under (before x y) (place-most x l)
@@ -95,133 +112,76 @@ place-most x (y ∷ l) = under (before x y) (place-most x l)
     under true rest = omega arith
     under false rest = omega arith
 
--- where x is put among n places from j on
-abbrev spot : (ℕ → Item) → Item → ℕ → ℕ → ℕ
-spot f x j n = place_for x (map f (range j n))
-
-insert_places : (f : ℕ → Item) (x : Item) (j n : ℕ) → insert x (map f (range j n)) ≡ map f (range j (spot f x j n)) ++ (x ∷ map f (range (j + spot f x j n) (n - spot f x j n)))
-unfolding insert place_for range
-insert_places f x j zero = refl
-insert_places f x j (suc n) = under (before x (f j)) (insert_places f x (j + 1) n)
-  where
-    k : ℕ
-    k = spot f x (j + 1) n
-
-    under : (q : Bool) → insert x (map f (range (j + 1) n)) ≡ map f (range (j + 1) k) ++ (x ∷ map f (range (j + 1 + k) (n - k))) → pick q (x ∷ map f (range j (suc n))) (f j ∷ insert x (map f (range (j + 1) n))) ≡ map f (range j (pick q 0 (suc k))) ++ (x ∷ map f (range (j + pick q 0 (suc k)) (suc n - pick q 0 (suc k))))
-    under true rest = ap₂ (λ p m. x ∷ map f (range p m)) (sym (add-zero j)) (sym (sub-zero (suc n)))
-    under false rest =
-        let a : j + 1 + k ≡ j + suc k = omega arith in
-        let b : n - k ≡ suc n - suc k = omega arith in
-        ap (λ l. f j ∷ l) (rest ∙ ap₂ (λ p m. map f (range (j + 1) k) ++ (x ∷ map f (range p m))) a b)
-
-module _ (at kind key : List ℕ) (i n : ℕ) where
-  pub items-next : i < n → items_from at kind key i n ≡ item_at at kind key i ∷ items_from at kind key (i + 1) n
-  unfolding items_from
-  items-next h = rw (range-next i n h)
-
-  pub items-end : n ≤ i → items_from at kind key i n ≡ []
-  unfolding items_from
-  items-end h = rw (range-end i n h)
-
-  pub length-items : length (items_from at kind key i n) ≡ n - i
-  unfolding items_from
-  length-items = length-map (range i (n - i)) (item_at at kind key) ∙ length-range i (n - i)
-
-  module _ (x : Item) where
-    pub put-here : i < n → before x (item_at at kind key i) ≡ true → i + place_for x (items_from at kind key i n) ≡ i
-    unfolding place_for
-    put-here h e = rw (items-next h, e) (add-zero i)
-
-    pub put_on : i < n → before x (item_at at kind key i) ≡ false → i + place_for x (items_from at kind key i n) ≡ i + 1 + place_for x (items_from at kind key (i + 1) n)
-    unfolding place_for
-    put_on h e = rw (items-next h, e) (omega arith)
-
-    pub put-end : n ≤ i → i + place_for x (items_from at kind key i n) ≡ i
-    unfolding place_for
-    put-end h = rw (items-end h) (add-zero i)
-
-  -- the items after a place is opened for one more
-  opened-items : (x : Item) → Wide most at kind key → i ≤ n → n < most → items_of (opened i n x.at at) (opened i n x.kind kind) (opened i n x.key key) (n + 1) ≡ map (item_at at kind key) (range 0 i) ++ (x ∷ map (item_at at kind key) (range i (n - i)))
-  unfolding items_from
-  opened-items x w h k =
-      let a : n < length at = omega (arith, w.at) in
-      let b : n < length kind = omega (arith, w.kind) in
-      let c : n < length key = omega (arith, w.key) in
-      let m : n + 1 - i - 1 ≡ n - i = omega arith in
-      let s : range 0 (n + 1 - 0) ≡ range 0 i ++ (i ∷ range (i + 1) (n - i)) =
-      ap (range 0) (sub-zero (n + 1))
-      ∙ (range_split 0 i (n + 1) (omega arith)
-      ∙ ap (λ l. range 0 i ++ l) (ap (λ j. range j (n + 1 - i)) (zero-add i) ∙ (range-more i (n + 1 - i) (omega arith) ∙ ap (λ j. i ∷ range (i + 1) j) m))) in
-      ap (map after) s
-      ∙ (map-append after (range 0 i) (i ∷ range (i + 1) (n - i))
-      ∙ ap₂ (λ p q. p ++ q)
-      (map_range after before' 0 0 i (λ d l. let e : 0 + d < i = omega arith in rw (opened-below i n x.at at (0 + d) h a e, opened-below i n x.kind kind (0 + d) h b e, opened-below i n x.key key (0 + d) h c e)))
-      (ap₂ (λ y l. y ∷ l)
-      (rw (opened-here i n x.at at h a, opened-here i n x.kind kind h b, opened-here i n x.key key h c))
-      (map_range after before' (i + 1) i (n - i) (λ d l. rw (opened-above i n x.at at d h a l, opened-above i n x.kind kind d h b l, opened-above i n x.key key d h c l)))))
-    where
-      before' : ℕ → Item
-      before' = item_at at kind key
-
-      after : ℕ → Item
-      after = item_at (opened i n x.at at) (opened i n x.kind kind) (opened i n x.key key)
-
-pub place-within : (at kind key : List ℕ) (n : ℕ) (x : Item) → place_for x (items_of at kind key n) ≤ n
-place-within at kind key n x = rw (length-items, sub-zero) at (place-most x (items_of at kind key n))
+-- the place is among the first n
+pub place-within : (x : Timed) (l : List Timed) (n i : ℕ) → n ≤ length l → i ≡ place_for (item_of x) (map item_of (take n l)) → i ≤ n
+place-within x l n i h e = omega (arith, e, length-held item_of l (map item_of (take n l)) n h refl, place-most (item_of x) (map item_of (take n l)))
 
 -- an item put at its place among n is the item inserted
-pub inserted : (at kind key : List ℕ) (n i : ℕ) (x : Item) → Wide most at kind key → n < most → i ≡ place_for x (items_of at kind key n) → items_of (opened i n x.at at) (opened i n x.kind kind) (opened i n x.key key) (n + 1) ≡ insert x (items_of at kind key n)
-unfolding items_from
-inserted at kind key n i x w h e =
-    let k : i ≤ n = omega (arith, e, place-within at kind key n x) in
-    opened-items at kind key i n x w k h ∙ sym same
-  where
-    all : items_of at kind key n ≡ map (item_at at kind key) (range 0 n)
-    all = ap (λ m. map (item_at at kind key) (range 0 m)) (sub-zero n)
-
-    here : spot (item_at at kind key) x 0 n ≡ i
-    here = sym (e ∙ ap (place_for x) all)
-
-    same : insert x (items_of at kind key n) ≡ map (item_at at kind key) (range 0 i) ++ (x ∷ map (item_at at kind key) (range i (n - i)))
-    same =
-        ap (insert x) all
-        ∙ (insert_places (item_at at kind key) x 0 n
-        ∙ ap₂ (λ p q. map (item_at at kind key) (range 0 p) ++ (x ∷ map (item_at at kind key) (range q (n - p)))) here (zero-add (spot (item_at at kind key) x 0 n) ∙ here))
+pub inserted : (l : List Timed) (v : List Item) (i n : ℕ) (x : Timed) → n < length l → map item_of (take n l) ≡ v → i ≡ place_for (item_of x) v → map item_of (take (n + 1) (set (copy_within l i n (i + 1)) i x)) ≡ insert (item_of x) v
+inserted l v i n x k e p =
+    let q : i ≤ n = rw (p, length-held item_of l v n (omega arith) e) (place-most (item_of x) v) in
+    ap (map item_of) (opened l i n x q k)
+    ∙ (map-append item_of (take i (take n l)) (x ∷ drop i (take n l))
+    ∙ (ap₂ (λ a b. a ++ (item_of x ∷ b)) (sym (take-map item_of i (take n l)) ∙ ap (take i) e) (sym (drop-map item_of i (take n l)) ∙ ap (drop i) e)
+    ∙ (ap (λ j. take j v ++ (item_of x ∷ drop j v)) p
+    ∙ sym (insert-place (item_of x) v))))
 
 -- ---- what earlier passes listed
 
-module _ (kind key : List ℕ) (i n : ℕ) (x : Item) where
-  list-next : i < n → list_from kind key i n ≡ list_at kind key i ∷ list_from kind key (i + 1) n
-  unfolding list_from
-  list-next h = rw (range-next i n h)
+tag-number : (k : Kind) → tag_of the_type k ≡ kind_no k
+tag-number kind.Drain = refl
+tag-number kind.Candidate = refl
+tag-number kind.Unadopted = refl
+tag-number kind.Held = refl
+tag-number kind.Probe = refl
+tag-number kind.Delayed = refl
+tag-number kind.Fin = refl
+tag-number kind.Elicit = refl
+tag-number kind.Confirm = refl
+tag-number kind.DelayEnd = refl
+tag-number kind.Resend = refl
+tag-number kind.Expire = refl
 
-  pub listed_here : i < n → names (list_at kind key i) x ≡ true → listed_in x (list_from kind key i n) ≡ true
-  unfolding listed_in
-  listed_here h e = rw (list-next h, e)
+-- `==` of two names is that they name the same
+pub same-names : (a b : Due) → (sameb the_type a.kind b.kind && eqb a.key b.key) ≡ names (due_of a) (due_of b)
+same-names a b = ap₂ (λ k l. eqb k l && eqb a.key b.key) (tag-number a.kind) (tag-number b.kind)
 
-  pub listed-on : i < n → names (list_at kind key i) x ≡ false → listed_in x (list_from kind key i n) ≡ listed_in x (list_from kind key (i + 1) n)
-  unfolding listed_in
-  listed-on h e = rw (list-next h, e)
+pub listed-any : (e : Due → Bool) (x : Item) → ((d : Due) → e d ≡ names (due_of d) x) → (l : List Due) → list_any e l ≡ listed_in x (map due_of l)
+unfolding listed_in
+listed-any e x h [] = refl
+listed-any e x h (d ∷ l) = ap₂ ◌||◌ (h d) (listed-any e x h l)
 
-  pub listed-end : n ≤ i → listed_in x (list_from kind key i n) ≡ false
-  unfolding listed_in list_from
-  listed-end h = rw (range-end i n h)
+-- an item without its instant
+abbrev pub name_at : Timed → Item
+name_at i = due_of i.due
 
--- a name stored after n is the last of the list
-pub noted : (kind key : List ℕ) (n : ℕ) (x : Item) → length kind ≡ most_listed → length key ≡ most_listed → n < most_listed → list_of (set kind n x.kind) (set key n x.key) (n + 1) ≡ list_of kind key n ++ (untimed x ∷ [])
-unfolding list_from range
-noted kind key n x a b h =
-    let p : least (n + 1) most_listed ≡ n + 1 = least-left {a = n + 1} {b = most_listed} (omega arith) in
-    let q : least n most_listed ≡ n = least-left {a = n} {b = most_listed} (omega arith) in
-    let m : n + 1 - n ≡ 1 = omega arith in
-    let s : range 0 (n + 1) ≡ range 0 n ++ (n ∷ []) =
-    range_split 0 n (n + 1) (omega arith) ∙ ap₂ (λ j k. range 0 n ++ range j k) (zero-add n) m in
-    rw (p, q, sub-zero (n + 1), sub-zero n)
-    (ap (map after) s
-    ∙ (map-append after (range 0 n) (n ∷ [])
-    ∙ ap₂ (λ l y. l ++ (y ∷ []))
-    (map_range after (list_at kind key) 0 0 n (λ d l. rw (get_or-set_other kind n (0 + d) x.kind 0 (λ e. omega arith), get_or-set_other key n (0 + d) x.key 0 (λ e. omega arith))))
-    (rw (get_or-set_same kind n x.kind 0 (omega arith), get_or-set_same key n x.key 0 (omega arith)))))
-  where
-    after : ℕ → Item
-    after = list_at (set kind n x.kind) (set key n x.key)
+-- a loop that notes items in turn notes one more
+pub noted-more :
+    (s₀ s s' : List Item) (l : List Timed) (i : ℕ) (d : Timed) → i < length l → (length s₀ + length l ≤ most_listed → s ≡ s₀ ++ map name_at (take i l))
+    → s' ≡ pick (ltb (length s) most_listed) (s ++ (name_at (get_or l i d) ∷ [])) s → length s₀ + length l ≤ most_listed → s' ≡ s₀ ++ map name_at (take (i + 1) l)
+noted-more s₀ s s' l i d h e o room =
+    let have : s ≡ s₀ ++ map name_at (take i l) = e room in
+    let count : length s ≡ length s₀ + i =
+    ap length have
+    ∙ (length-append s₀ (map name_at (take i l))
+    ∙ ap (λ n. length s₀ + n) (length-map (take i l) name_at ∙ length-take-le i l (omega arith))) in
+    let less : length s < most_listed = omega arith in
+    let more : take (i + 1) l ≡ take i l ++ (get_or l i d ∷ []) = ap (λ m. take m l) (add-one i) ∙ take-suc l i d h in
+    o
+    ∙ (ap (λ b. pick b (s ++ (name_at (get_or l i d) ∷ [])) s) (lt-ltb (length s) most_listed less)
+    ∙ (ap (λ r. r ++ (name_at (get_or l i d) ∷ [])) have
+    ∙ (append_assoc s₀ (map name_at (take i l)) (name_at (get_or l i d) ∷ [])
+    ∙ ap (λ r. s₀ ++ r) (sym (ap (map name_at) more ∙ map-append name_at (take i l) (get_or l i d ∷ []))))))
+
+map-twice : (l : List Timed) → map name_at l ≡ map untimed (map item_of l)
+map-twice [] = refl
+map-twice (x ∷ l) = ap (λ r. name_at x ∷ r) (map-twice l)
+
+-- the loop has noted them all
+pub noted-all :
+    (s₀ s v : List Item) (l : List Timed) (i : ℕ) → length l ≤ i → map item_of l ≡ v → (length s₀ + length l ≤ most_listed → s ≡ s₀ ++ map name_at (take i l))
+    → length s₀ + length v ≤ most_listed → s ≡ s₀ ++ map untimed v
+noted-all s₀ s v l i h e f room =
+    let same : length v ≡ length l = sym (ap length e) ∙ length-map l item_of in
+    f (omega arith)
+    ∙ ap (λ r. s₀ ++ r) (ap (map name_at) (take_all i l h) ∙ (map-twice l ∙ ap (map untimed) e))

@@ -1,10 +1,10 @@
--- Items and names of items, one array to a field.
-use Rattle.std.specs.Prelude.{ℕ, suc, ◌≤◌, ◌+◌, ◌-◌, List, [], ◌∷◌, ◌++◌, map, ◌≡◌, ltb, length, get_or, take, drop}
-use Rattle.std.proofs.Math.Seq.{slice}
+-- What the lists of items hold, as definitions see it, and where an item is put.
+use Rattle.std.specs.Prelude.{ℕ, suc, List, [], ◌∷◌}
 use Rattle.time.specs.Pick.{pick}
-use Rattle.time.specs.Lists.{range}
-use Rattle.time.specs.Time.{least}
-use Rattle.items.specs.Items.{Item, item, before, insert, untimed}
+use Rattle.numbers.specs.Cases.{kind_no}
+use Rattle.items.specs.declared.Due.{Due}
+use Rattle.items.specs.declared.Item.{Item as Timed}
+use Rattle.items.specs.Items.{Item, item, before}
 
 -- the most items of a pass: 32 candidates and eight more
 abbrev pub most : ℕ
@@ -14,59 +14,15 @@ most = 40
 abbrev pub most_listed : ℕ
 most_listed = 120
 
--- the item at place i
-abbrev pub item_at : List ℕ → List ℕ → List ℕ → ℕ → Item
-item_at at kind key i = item (get_or at i 0) (get_or kind i 0) (get_or key i 0)
+-- an item of the code
+abbrev pub item_of : Timed → Item
+item_of i = item i.at (kind_no i.due.kind) i.due.key
 
--- the items from place i up to place n
-unfoldable pub items_from : List ℕ → List ℕ → List ℕ → ℕ → ℕ → List Item
-items_from at kind key i n = map (item_at at kind key) (range i (n - i))
-
--- the first n items
-abbrev pub items_of : List ℕ → List ℕ → List ℕ → ℕ → List Item
-items_of at kind key n = items_from at kind key 0 n
+-- a listed item, which has no instant
+abbrev pub due_of : Due → Item
+due_of d = item 0 (kind_no d.kind) d.key
 
 -- where an item is put
 unfoldable pub place_for : Item → List Item → ℕ
 place_for x [] = 0
 place_for x (y ∷ l) = pick (before x y) 0 (suc (place_for x l))
-
--- x put at place i of n: what stands there and after it, up to n, moves up by one
-unfoldable pub opened : ℕ → ℕ → ℕ → List ℕ → List ℕ
-opened i n x l = take i l ++ (x ∷ (slice i n l ++ drop (n + 1) l))
-
--- a listed item, which has no instant
-abbrev pub list_at : List ℕ → List ℕ → ℕ → Item
-list_at kind key i = item 0 (get_or kind i 0) (get_or key i 0)
-
--- the listed items from place i up to place n
-unfoldable pub list_from : List ℕ → List ℕ → ℕ → ℕ → List Item
-list_from kind key i n = map (list_at kind key) (range i (n - i))
-
--- what earlier passes listed: the first n, 120 at most
-abbrev pub list_of : List ℕ → List ℕ → ℕ → List Item
-list_of kind key n = list_from kind key 0 (least n most_listed)
-
--- ---- what the functions promise
-
--- three arrays of n places
-pub record Wide (n : ℕ) (a k x : List ℕ) : Type 0 where
-  pub at : length a ≡ n
-  pub kind : length k ≡ n
-  pub key : length x ≡ n
-
--- one more, where there is room
-abbrev pub counted : ℕ → ℕ → ℕ
-counted limit n = pick (ltb n limit) (n + 1) n
-
--- an item put in its place among n, where there is room
-pub record Inserted (at kind key : List ℕ) (n : ℕ) (x : Item) (at' kind' key' : List ℕ) (r : ℕ) : Type 0 where
-  pub count : r ≡ counted most n
-  pub items : items_of at' kind' key' r ≡ pick (ltb n most) (insert x (items_of at kind key n)) (items_of at kind key n)
-  pub full : most ≤ n → (at' ≡ at) × (kind' ≡ kind) × (key' ≡ key)
-
--- an item's name put after n, where there is room
-pub record Noted (kind key : List ℕ) (n : ℕ) (x : Item) (kind' key' : List ℕ) (r : ℕ) : Type 0 where
-  pub count : r ≡ counted most_listed n
-  pub list : list_of kind' key' r ≡ pick (ltb n most_listed) (list_of kind key n ++ (untimed x ∷ [])) (list_of kind key n)
-  pub full : most_listed ≤ n → (kind' ≡ kind) × (key' ≡ key)

@@ -1,129 +1,199 @@
-// The items of a pass: what is due, in the order in which a poll acts on it (machine.rs, `poll`).
-//
-// Items stand in three lent arrays, one to a field: the instant, the kind and the key, which is a
-// tag or a sequence number. A second pair of arrays holds the kinds and keys that earlier passes
-// listed.
+// The items of a pass: what is due, in the order in which a poll acts on it (machine.rs, `poll`), and what earlier
+// passes listed. Both lists are arrays with a length, since the link has no heap.
 #![tactic(auto)]
 
-ghost use Rattle.std.specs.Prelude.{◌≡◌, ◌≤◌, ◌<◌, length};
-ghost use Rattle.time.specs.Time.{least};
-ghost use Rattle.items.specs.Items.{item, before, names, listed_in};
-ghost use Rattle.items.specs.Arrays.{most, most_listed, items_of, place_for, opened, list_of, Inserted, Noted};
+ghost use Rattle.std.specs.Prelude.{◌≡◌, ◌≤◌, ◌+◌, [], ◌∷◌, ◌++◌, map, length, ltb, eqb};
+ghost use Rattle.std.specs.List.{position_from};
+ghost use Rattle.time.specs.Pick.{pick};
+ghost use Rattle.numbers.specs.Cases.{kind_no};
+ghost use Rattle.items.specs.Items.{item, before, insert, listed_in, untimed};
+ghost use Rattle.items.specs.Arrays.{most, most_listed, item_of, due_of, place_for};
 
-// Whether the first item comes before the second: by instant, then by kind, then by key.
-fn is_before(t: u64, k: u64, x: u64, at: u64, kind: u64, key: u64) -> bool
-    ensures { result ≡ before (item t k x) (item at kind key) }
-{
-    if t == at {
-        if k == kind { x < key } else { k < kind }
-    } else {
-        t < at
-    }
+use numbers::item::Kind;
+use std::marker::Model;
+
+// The most items of a pass: 32 candidates and eight more.
+const MOST: usize = 40;
+
+// What three passes list at most.
+const MOST_LISTED: usize = 120;
+
+// What is due: a kind, and a tag or a sequence number, 0 for a kind that has none.
+#[derive(Clone, Copy, PartialEq, Eq)]
+pub struct Due {
+    pub kind: Kind,
+    pub key: u64,
 }
 
-// Whether a listed item has that kind and key.
-fn is_named(kind: u64, key: u64, k: u64, x: u64) -> bool
-    ensures { result ≡ names (item 0 kind key) (item 0 k x) }
-{
-    if kind == k { key == x } else { false }
+// What is due, and when.
+#[derive(Clone, Copy)]
+pub struct Item {
+    pub at: u64,
+    pub due: Due,
 }
 
-// Where an item is put among `n`: before the first that it comes before.
-fn place<'a>(
-    at: &'a [u64; 40],
-    kind: &'a [u64; 40],
-    key: &'a [u64; 40],
-    n: usize,
-    t: u64,
-    k: u64,
-    x: u64,
-) -> usize
-    requires { n ≤ most }
-    ensures { result ≡ place_for (item t k x) (items_of at.now kind.now key.now n) }
-{
-    let mut i = 0;
-    while i < n {
-        if is_before(t, k, x, at[i], kind[i], key[i]) {
-            return i;
+impl Item {
+    // A thing of that kind and key, due at that instant.
+    pub fn new(at: u64, kind: Kind, key: u64) -> Item
+        ensures { item_of result ≡ item at (kind_no kind) key }
+    {
+        Item {
+            at,
+            due: Due { kind, key },
         }
-        i += 1;
     }
-    n
-}
 
-// `x` is put at place `i` of `n`: what stands there and after it moves up by one.
-fn put_at(a: &mut [u64; 40], i: usize, n: usize, x: u64)
-    requires { (i ≤ n) × (n < most) × (length a.old ≡ most) }
-    ensures { a.new ≡ opened i n x a.old }
-{
-    let mut j = n;
-    while i < j {
-        a[j] = a[j - 1];
-        j -= 1;
+    // Whether it comes before another: by instant, then by kind, then by key.
+    pub fn is_before(self, other: Item) -> bool
+        ensures { result ≡ before (item_of self) (item_of other) }
+    {
+        let own = (self.at, self.due.kind.number(), self.due.key);
+        own < (other.at, other.due.kind.number(), other.due.key)
     }
-    a[i] = x;
 }
 
-// An item is put in its place among the first `n`; how many there are then. A pass has 40 items at
-// most, and where there are 40 nothing changes.
-pub fn insert(
-    at: &mut [u64; 40],
-    kind: &mut [u64; 40],
-    key: &mut [u64; 40],
-    n: usize,
-    t: u64,
-    k: u64,
-    x: u64,
-) -> usize
-    ensures { Inserted at.old kind.old key.old n (item t k x) at.new kind.new key.new result }
+// The first item that an item comes before.
+fn first_after(items: &[Item], item: Item) -> Option<usize>
+    ensures { result ≡ position_from (λ x. before (item_of item) (item_of x)) 0 items.now }
 {
-    if 40 <= n {
-        return n;
+    items.iter().position(|x| item.is_before(*x))
+}
+
+// Where an item is put: before the first that it comes before.
+fn place(items: &[Item], item: Item) -> usize
+    ensures { result ≡ place_for (item_of item) (map item_of items.now) }
+{
+    first_after(items, item).unwrap_or(items.len())
+}
+
+// The items of a pass, in order: 40 at most.
+#[derive(Drop)]
+pub struct Items {
+    items: [Item; MOST],
+    len: usize,
+}
+
+// Clauses see the items as a list.
+impl Model for Items {
+    ghost use Rattle.std.specs.Prelude.{◌≡◌, ◌≤◌, List, map, take, length};
+    ghost use Rattle.items.specs.Items.{Item};
+    ghost use Rattle.items.specs.Arrays.{item_of, most};
+
+    ghost Value = { List Item };
+
+    ghost view = { λ a. map item_of (take a.len a.items) };
+
+    ghost invariant = { λ a. (a.len ≤ most) × (length a.items ≡ most) };
+}
+
+impl Items {
+    // No items.
+    pub fn new() -> Items
+        ensures { result ≡ [] }
+    {
+        let items = [Item::new(0, Kind::Drain, 0); MOST];
+        Items { items, len: 0 }
     }
-    let _at = lengths::words(at);
-    let _kind = lengths::words(kind);
-    let _key = lengths::words(key);
-    let i = place(at, kind, key, n, t, k, x);
-    put_at(at, i, n, t);
-    put_at(kind, i, n, k);
-    put_at(key, i, n, x);
-    n + 1
-}
 
-// `n`, at most 120.
-fn bounded(n: usize) -> usize
-    ensures { result ≡ least n most_listed }
-{
-    if n <= 120 { n } else { 120 }
-}
+    // How many there are.
+    pub fn len(&self) -> usize
+        ensures value { result ≡ length self.now }
+        ensures room { result ≤ most }
+    {
+        self.len
+    }
 
-// Whether an earlier pass listed that kind and key; `n` above 120 counts as 120.
-pub fn listed<'a>(kind: &'a [u64; 120], key: &'a [u64; 120], n: usize, k: u64, x: u64) -> bool
-    ensures { result ≡ listed_in (item 0 k x) (list_of kind.now key.now n) }
-{
-    let m = bounded(n);
-    let mut i = 0;
-    while i < m {
-        if is_named(kind[i], key[i], k, x) {
-            return true;
+    // Whether there are none.
+    pub fn is_empty(&self) -> bool
+        ensures { result ≡ eqb (length self.now) 0 }
+    {
+        self.len == 0
+    }
+
+    // The items in order.
+    pub fn as_slice(&self) -> &[Item]
+        ensures value { map item_of result.now ≡ self.now }
+        ensures room { length result.now ≤ most }
+    {
+        &self.items[..self.len]
+    }
+
+    // An item is put in its place. A pass has 40 items at most, and where there are 40 nothing changes.
+    pub fn insert(&mut self, item: Item)
+        ensures { self.new ≡ pick (ltb (length self.old) most) (insert (item_of item) self.old) self.old }
+    {
+        if self.len < MOST {
+            let i = place(&self.items[..self.len], item);
+            self.items.copy_within(i..self.len, i + 1);
+            self.items[i] = item;
+            self.len += 1;
         }
-        i += 1;
     }
-    false
 }
 
-// A kind and a key are put after the first `n`; how many there are then. Three passes list 120 at
-// most, and where there are 120 nothing changes.
-pub fn note(kind: &mut [u64; 120], key: &mut [u64; 120], n: usize, k: u64, x: u64) -> usize
-    ensures { Noted kind.old key.old n (item 0 k x) kind.new key.new result }
-{
-    if 120 <= n {
-        return n;
+// What earlier passes listed, without the instants: 120 at most. It is no generic list with `Items`, since a struct
+// of the language holds no array of a type parameter.
+#[derive(Drop)]
+pub struct Listed {
+    names: [Due; MOST_LISTED],
+    len: usize,
+}
+
+// Clauses see the listed items as a list.
+impl Model for Listed {
+    ghost use Rattle.std.specs.Prelude.{◌≡◌, ◌≤◌, List, map, take, length};
+    ghost use Rattle.items.specs.Items.{Item};
+    ghost use Rattle.items.specs.Arrays.{due_of, most_listed};
+
+    ghost Value = { List Item };
+
+    ghost view = { λ a. map due_of (take a.len a.names) };
+
+    ghost invariant = { λ a. (a.len ≤ most_listed) × (length a.names ≡ most_listed) };
+}
+
+impl Listed {
+    // Nothing listed yet.
+    pub fn new() -> Listed
+        ensures { result ≡ [] }
+    {
+        let kind = Kind::Drain;
+        let names = [Due { kind, key: 0 }; MOST_LISTED];
+        Listed { names, len: 0 }
     }
-    let _kind = lengths::words(kind);
-    let _key = lengths::words(key);
-    let next = n + 1;
-    kind[n] = k;
-    key[n] = x;
-    next
+
+    // How many are listed.
+    pub fn len(&self) -> usize
+        ensures value { result ≡ length self.now }
+        ensures room { result ≤ most_listed }
+    {
+        self.len
+    }
+
+    // Whether an earlier pass listed that kind and key.
+    pub fn contains(&self, due: Due) -> bool
+        ensures { result ≡ listed_in (due_of due) self.now }
+    {
+        self.names[..self.len].contains(&due)
+    }
+
+    // A kind and a key are put after those listed. Three passes list 120 at most, and where there are 120 nothing
+    // changes.
+    pub fn note(&mut self, due: Due)
+        ensures { self.new ≡ pick (ltb (length self.old) most_listed) (self.old ++ (due_of due ∷ [])) self.old }
+    {
+        if self.len < MOST_LISTED {
+            self.names[self.len] = due;
+            self.len += 1;
+        }
+    }
+
+    // The kinds and keys of a pass's items are put after those listed before.
+    pub fn extend(&mut self, items: &Items)
+        ensures { length self.old + length items.now ≤ most_listed → self.new ≡ self.old ++ map untimed items.now }
+    {
+        for x in items.as_slice() {
+            self.note(x.due);
+        }
+    }
 }

@@ -1,4 +1,6 @@
 pub mod Rungs
 pub mod Worked
 pub mod Laws
-pub mod Taken
+pub mod Counted
+pub mod SoFar
+pub mod Lent

@@ -1,6 +1,6 @@
 -- P1 to P11 of document 01, one table, against the definitions; P8 to P10 with the number taken, of which
 -- request 2 says "P9 then gives 1 and P10 gives 3".
-use Rattle.std.specs.Prelude.{◌-◌, refl}
+use Rattle.std.specs.Prelude.{refl}
 use Rattle.time.specs.Lists.{fold, range, kept, take_while}
 use Rattle.time.specs.Time.{later_of, sat_mul, least, most}
 use Rattle.ladder.specs.Schedule.{cut, doubled, doubling_of, keepalives, filled, probes_of, bits_of, laid, rung_at, held_of, rungs_of}

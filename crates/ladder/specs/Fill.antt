@@ -2,7 +2,7 @@
 use Rattle.std.specs.Prelude.{ℕ, ◌+◌, ◌^◌, Bool, ltb, set, replicate}
 use Rattle.time.specs.declared.When.{When}
 use Rattle.time.specs.Pick.{pick}
-use Rattle.time.specs.Time.{at, least}
+use Rattle.time.specs.Time.{least}
 use Rattle.ladder.specs.declared.Schedule.{Schedule}
 use Rattle.ladder.specs.declared.Made.{Made}
 use Rattle.ladder.specs.Schedule.{Rung, send, max_rungs, before}

@@ -6,12 +6,15 @@ use Rattle.time.specs.Lists.{fold, take_while}
 use Rattle.time.specs.Time.{none, at, later_of, reached_of}
 use Rattle.ladder.specs.declared.Schedule.{Schedule}
 use Rattle.ladder.specs.declared.Ladder.{Ladder}
-use Rattle.ladder.specs.declared.Taking.{Taking}
-use Rattle.ladder.specs.declared.Took.{Took}
+use Rattle.ladder.specs.Took.{Taking, Took}
 use Rattle.ladder.specs.Schedule.{Rung, max_rungs, rungs_of, held_of}
 
 abbrev pub anew : ℕ → Schedule → Ladder
 anew t s = record { origin = t; sched = s; next = 0 }
+
+-- a ladder with its cursor at rung n
+abbrev pub moved_to : Ladder → ℕ → Ladder
+moved_to l n = record { origin = l.origin; sched = l.sched; next = n }
 
 -- the rungs that are not taken yet
 unfoldable pub remaining : Ladder → List Rung

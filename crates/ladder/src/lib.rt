@@ -4,15 +4,15 @@
 // instant, with a cursor at the next rung. A late poll takes every overdue rung at once.
 #![tactic(auto)]
 
-ghost use Rattle.std.specs.Prelude.{◌≡◌, Bool, ◌<◌, ◌-◌, ◌^◌};
+ghost use Rattle.std.specs.Prelude.{◌≡◌, ◌<◌, ◌≤◌, ◌+◌, ◌-◌, ◌^◌, leb, Some};
 ghost use Rattle.time.specs.Pick.{pick};
 ghost use Rattle.time.specs.Lists.{fold};
-ghost use Rattle.ladder.specs.Schedule.{max_rungs, doubled as doubled_of, made_of, doubling_of, probes_of, keepalives, rung_at, rungs_of, last_send_of, held_of, last_of};
+ghost use Rattle.time.specs.Options.{when_of};
+ghost use Rattle.ladder.specs.Schedule.{max_rungs, doubled as doubled_of, made_of, doubling_of, probes_of, keepalives, rung_at, rungs_of, last_send_of, held_of};
 ghost use Rattle.ladder.specs.Laws.{Fresh};
 ghost use Rattle.ladder.specs.Fill.{lost_of, losing, put_of, putting, offered};
-ghost use Rattle.ladder.specs.Ladder.{instant_of, next_at_of, due_of, taking, take_of, anew};
-
-use time::When;
+ghost use Rattle.ladder.specs.Ladder.{instant_of, next_at_of, due_of, taking, take_of, anew, moved_to};
+ghost use Rattle.ladder.specs.Took.{took_of, so_far, count_of, sent_of};
 
 // The most rungs a schedule holds.
 pub const MAX_RUNGS: usize = 16;
@@ -22,7 +22,8 @@ pub const MAX_LEN: u8 = MAX_RUNGS as u8;
 
 pub const MAX_COUNT: u64 = MAX_RUNGS as u64;
 
-// Offsets from an origin, in milliseconds, and what each rung carries.
+// Offsets from an origin, in milliseconds, and what each rung carries. An array with its length beside it, since C has it
+// so in the state, and no heap is there.
 #[repr(C)]
 #[derive(Clone, Copy)]
 pub struct Schedule {
@@ -49,26 +50,9 @@ pub struct Ladder {
     pub next: u8,
 }
 
-// A ladder, and the instant of its next rung: absent when every rung is taken.
+// What was taken from a ladder: some rung was due.
 #[derive(Clone, Copy)]
-pub struct NextAt {
-    pub ladder: Ladder,
-    pub at: When,
-}
-
-// A ladder, and whether a rung is due.
-#[derive(Clone, Copy)]
-pub struct IsDue {
-    pub ladder: Ladder,
-    pub due: bool,
-}
-
-// A moved ladder, and what was taken from it.
-#[derive(Clone, Copy)]
-pub struct Took {
-    pub ladder: Ladder,
-    // Some rung was due.
-    pub any: bool,
+pub struct Taken {
     // How many rungs were taken, keepalives too.
     pub taken: u64,
     // Some rung taken was no keepalive.
@@ -79,25 +63,12 @@ pub struct Took {
     pub last: bool,
 }
 
-// What the rungs taken so far tell, with the cursor after them.
-#[derive(Clone, Copy)]
-pub struct Taking {
-    pub next: u8,
-    pub any: bool,
-    pub send: bool,
-    pub latest: u64,
-}
-
 // `n + k`, at most 255.
+#[tactic(auto, using(time::proofs::Std::add_capped), unfolding(crate::specs::Fill::lost_of))]
 fn lost(n: u8, k: u64) -> u8
     ensures { result ≡ lost_of n k }
 {
-    if k < 256 {
-        let s = (n as u64) + k;
-        if s < 256 { s as u8 } else { 255 }
-    } else {
-        255
-    }
+    (n as u64).saturating_add(k).min(255) as u8
 }
 
 // The offset of resend `i` (from 0) of a doubling ladder whose first interval is `first`: `first`,
@@ -108,9 +79,9 @@ fn doubled(first: u64, i: u8) -> u64
 {
     if i < 63 {
         let p: u64 = 1 << ((i + 1) as u64);
-        time::sat_mul(first, p - 1)
+        first.saturating_mul(p - 1)
     } else {
-        18446744073709551615
+        time::END
     }
 }
 
@@ -118,7 +89,7 @@ fn doubled(first: u64, i: u8) -> u64
 fn between(last: u64, next: u64) -> u64
     ensures { result ≡ next - last - 1 }
 {
-    time::since(time::since(next, last), 1)
+    next.saturating_sub(last).saturating_sub(1)
 }
 
 // The map's bit of rung `i`, or 0 for a rung that sends.
@@ -131,15 +102,12 @@ fn mark(i: u8, silent: bool) -> u64
 
 impl Made {
     // With `k` more dropped.
+    #[tactic(auto, unfolding(crate::specs::Fill::losing))]
     fn lose(self, k: u64) -> Made
         ensures { result ≡ losing self k }
     {
-        let sched = self.sched;
         let dropped = lost(self.dropped, k);
-        Made {
-            sched: sched,
-            dropped: dropped,
-        }
+        Made { dropped, ..self }
     }
 
     // One rung more, or one more dropped where the schedule is full.
@@ -155,28 +123,21 @@ impl Made {
             sched.at[i] = at;
             sched.keepalive = sched.keepalive + bit;
             sched.len = len + 1;
-            Made {
-                sched: sched,
-                dropped: self.dropped,
-            }
+            Made { sched, ..self }
         } else {
             self.lose(1)
         }
     }
 
     // A resend at `at`, dropped unless it lies strictly before the end, if there is one.
-    fn offer(self, at: u64, end: When) -> Made
+    #[tactic(auto, unfolding(crate::specs::Fill::offered))]
+    fn offer(self, at: u64, end: Option<u64>) -> Made
         requires { Fresh self }
-        ensures { result ≡ offered max_rungs end self at }
+        ensures { result ≡ offered max_rungs (when_of end) self at }
     {
-        if end.some {
-            if at < end.at {
-                self.put(at, false)
-            } else {
-                self.lose(1)
-            }
-        } else {
-            self.put(at, false)
+        match end {
+            Some(end) if end <= at => self.lose(1),
+            _ => self.put(at, false),
         }
     }
 
@@ -188,13 +149,11 @@ impl Made {
         ensures { result ≡ fold (put_of max_rungs) self (keepalives gap last next) }
     {
         let all = between(last, next) / gap;
-        let room = time::since(MAX_COUNT, self.sched.len as u64);
-        let n = time::min(all, room);
+        let room = MAX_COUNT.saturating_sub(self.sched.len as u64);
+        let n = all.min(room);
         let mut made = self;
-        let mut i: u64 = 0;
-        while i < n {
+        for i in 0..n {
             made = made.put(last + (i + 1) * gap, true);
-            i += 1;
         }
         made.lose(all - n)
     }
@@ -213,19 +172,16 @@ impl Schedule {
 
     // Up to `count` doubling resends with first interval `first`, keeping only those strictly
     // before `end` when an end is given.
-    pub fn doubling(first: u64, count: u8, end: When) -> Made
-        ensures { result ≡ made_of max_rungs (doubling_of max_rungs first count end) }
+    pub fn doubling(first: u64, count: u8, end: Option<u64>) -> Made
+        ensures { result ≡ made_of max_rungs (doubling_of max_rungs first count (when_of end)) }
     {
-        let f = time::max(first, 1);
+        let f = first.max(1);
         let mut made = Made {
             sched: Schedule::EMPTY,
             dropped: 0,
         };
-        let mut i: u8 = 0;
-        while i < count {
-            let at = doubled(f, i);
-            made = made.offer(at, end);
-            i += 1;
+        for i in 0..count {
+            made = made.offer(doubled(f, i), end);
         }
         made
     }
@@ -235,15 +191,8 @@ impl Schedule {
     pub fn probes(first: u64, count: u8, end: u64, gap: u64) -> Made
         ensures { result ≡ made_of max_rungs (probes_of max_rungs first count end gap) }
     {
-        let g = time::max(gap, 1);
-        let d = Schedule::doubling(
-            first,
-            count,
-            When {
-                some: true,
-                at: end,
-            },
-        );
+        let g = gap.max(1);
+        let d = Schedule::doubling(first, count, Some(end));
         let sends = d.sched;
         let n = sends.rungs();
         let mut made = Made {
@@ -251,23 +200,22 @@ impl Schedule {
             dropped: d.dropped,
         };
         let mut last: u64 = 0;
-        let mut i: usize = 0;
-        while i < n {
+        for i in 0..n {
             let at = sends.at[i];
             made = made.fill(last, at, g);
             made = made.put(at, false);
             last = at;
-            i += 1;
         }
         made.fill(last, end, g)
     }
 
     // How many rungs there are; a length that claims more than fit counts as the most that fit.
+    #[tactic(auto, using(time::proofs::Std::min_least), unfolding(crate::specs::Schedule::held_of))]
     pub fn rungs(self) -> usize
-        ensures { result ≡ held_of max_rungs self }
+        ensures value { result ≡ held_of max_rungs self }
+        ensures within { result ≤ max_rungs }
     {
-        let n = self.len as usize;
-        if n <= MAX_RUNGS { n } else { MAX_RUNGS }
+        (self.len as usize).min(MAX_RUNGS)
     }
 
     // Whether rung `i` is a keepalive and nothing else.
@@ -278,46 +226,33 @@ impl Schedule {
         (self.keepalive >> (i as u64)) % 2 == 1
     }
 
-    // The offset of rung `i` where it sends, else `found`.
-    fn send_or(self, i: usize, found: When) -> When
-        requires { i < max_rungs }
-        ensures { result ≡ last_of found (rung_at self i) }
-    {
-        if self.silent(i) {
-            found
-        } else {
-            let at = self.at[i];
-            When { some: true, at: at }
-        }
-    }
-
     // The offset of the last rung that sends, absent when none does.
-    pub fn last_send(self) -> When
-        ensures { result ≡ last_send_of (rungs_of max_rungs self) }
+    pub fn last_send(self) -> Option<u64>
+        ensures { when_of result ≡ last_send_of (rungs_of max_rungs self) }
     {
         let n = self.rungs();
-        let mut found = When { some: false, at: 0 };
-        let mut i: usize = 0;
-        while i < n {
-            found = self.send_or(i, found);
-            i += 1;
+        let mut found = None;
+        for i in 0..n {
+            if !self.silent(i) {
+                found = Some(self.at[i]);
+            }
         }
         found
     }
 }
 
-// A rung that is no keepalive sends, and so does one taken with an earlier send.
-fn sends(silent: bool, before: bool) -> bool
-    ensures { result ≡ pick silent before Bool.true }
+// How many rungs were taken so far.
+fn count(before: Option<Taken>) -> u64
+    ensures { result ≡ count_of before }
 {
-    if silent { before } else { true }
+    before.map_or(0, |t| t.taken)
 }
 
-// How many rungs a cursor passed.
-fn passed(from: u8, to: u8) -> u64
-    ensures { result ≡ to - from }
+// Whether one of them was no keepalive.
+fn sent(before: Option<Taken>) -> bool
+    ensures { result ≡ sent_of before }
 {
-    time::since(to as u64, from as u64)
+    before.is_some_and(|t| t.send)
 }
 
 impl Ladder {
@@ -326,91 +261,78 @@ impl Ladder {
         ensures { result ≡ anew origin sched }
     {
         Ladder {
-            origin: origin,
-            sched: sched,
+            origin,
+            sched,
             next: 0,
         }
     }
 
     // The instant of rung `i`, absent past the last.
-    fn instant(self, i: u8) -> When
-        ensures { result ≡ instant_of self i }
+    #[tactic(auto, unfolding(crate::specs::Ladder::instant_of))]
+    fn instant(self, i: u8) -> Option<u64>
+        ensures { when_of result ≡ instant_of self i }
     {
-        let sched = self.sched;
-        let n = sched.rungs();
         let k = i as usize;
-        if k < n {
-            let t = time::later(self.origin, sched.at[k]);
-            When { some: true, at: t }
+        if k < self.sched.rungs() {
+            Some(time::later(self.origin, self.sched.at[k]))
         } else {
-            When { some: false, at: 0 }
+            None
         }
     }
 
-    // The instant of the next rung.
-    pub fn next_at(self) -> NextAt
-        ensures { (result.ladder ≡ self) × (result.at ≡ next_at_of self) }
+    // The instant of the next rung, absent when every rung is taken.
+    #[tactic(auto, using(crate::proofs::Laws::next_instant))]
+    pub fn next_at(self) -> Option<u64>
+        ensures { when_of result ≡ next_at_of self }
     {
-        let at = self.instant(self.next);
-        NextAt {
-            ladder: self,
-            at: at,
-        }
+        self.instant(self.next)
     }
 
     // Whether a rung is due at `now`.
-    pub fn due(self, now: u64) -> IsDue
-        ensures { (result.ladder ≡ self) × (result.due ≡ due_of self now) }
+    #[tactic(auto, unfolding(crate::specs::Ladder::due_of))]
+    pub fn due(self, now: u64) -> bool
+        ensures { result ≡ due_of self now }
     {
-        let next = self.instant(self.next);
-        let due = next.reached(now);
-        IsDue {
-            ladder: self,
-            due: due,
+        self.next_at().is_some_and(|t| t <= now)
+    }
+
+    // Whether no rung is left; a length that claims more than fit has no last one.
+    fn spent(&self) -> bool
+        ensures { result ≡ leb self.now.sched.len self.now.next }
+    {
+        self.sched.len <= self.next
+    }
+
+    // One rung taken, after what was taken `before`.
+    #[tactic(auto, unfolding(crate::specs::Ladder::taking, crate::specs::Schedule::rung_at))]
+    fn step(&mut self, before: Option<Taken>) -> Taken
+        requires rung { self.old.next < max_rungs }
+        requires count { count_of before ≤ self.old.next }
+        ensures moved { self.new ≡ moved_to self.old (self.old.next + 1) }
+        ensures step { so_far self.new (Some result) ≡ taking (so_far self.old before) (rung_at self.old.sched self.old.next) }
+        ensures count { result.taken ≡ count_of before + 1 }
+        ensures last { result.last ≡ leb self.old.sched.len (self.old.next + 1) }
+    {
+        let i = self.next as usize;
+        let sends = !self.sched.silent(i);
+        let latest = self.sched.at[i];
+        self.next += 1;
+        Taken {
+            taken: count(before) + 1,
+            send: sends || sent(before),
+            latest,
+            last: self.spent(),
         }
     }
 
-    // One rung taken.
-    fn step(self, t: Taking) -> Taking
-        requires { t.next < max_rungs }
-        ensures { result ≡ taking t (rung_at self.sched t.next) }
+    // Takes every rung due at `now`; nothing where none is due.
+    pub fn take(&mut self, now: u64) -> Option<Taken>
+        ensures { took_of self.new result ≡ take_of self.old now }
     {
-        let i = t.next as usize;
-        let sched = self.sched;
-        let silent = sched.silent(i);
-        let latest = sched.at[i];
-        let send = sends(silent, t.send);
-        Taking {
-            next: t.next + 1,
-            any: true,
-            send: send,
-            latest: latest,
+        let mut so_far = None;
+        while self.due(now) {
+            so_far = Some(self.step(so_far));
         }
-    }
-
-    // Every rung due at `now`.
-    pub fn take(self, now: u64) -> Took
-        ensures { result ≡ take_of self now }
-    {
-        let mut t = Taking {
-            next: self.next,
-            any: false,
-            send: false,
-            latest: 0,
-        };
-        while self.instant(t.next).reached(now) {
-            t = self.step(t);
-        }
-        let taken = passed(self.next, t.next);
-        let mut moved = self;
-        moved.next = t.next;
-        Took {
-            ladder: moved,
-            any: t.any,
-            taken: taken,
-            send: t.send,
-            latest: t.latest,
-            last: moved.sched.len <= t.next,
-        }
+        so_far
     }
 }

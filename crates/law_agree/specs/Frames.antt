@@ -15,7 +15,7 @@ use Rattle.state.specs.declared.Profile.{Profile}
 use Rattle.state.specs.declared.Given.{Given}
 use Rattle.state.specs.Stands.{some, when_view, epoch_view}
 use Rattle.events.specs.Events.{Ended, Mark}
-use Rattle.refusal.specs.declared.Refused.{Refused}
+use Rattle.refusal.specs.Refused.{Refused}
 use Rattle.refusal.specs.Refusal.{Test, first, by, numbered, accepted, spread_bad, given_tests, state_tests, frame_tests}
 use Rattle.law_refusal.specs.Sound.{Sound}
 use Rattle.time.specs.Pick.{and_left}

@@ -3,7 +3,7 @@
 use Rattle.std.specs.Prelude.{ℕ, true, ◌≡◌, refl, List, eqb, length}
 use Rattle.std.proofs.Common.{sym, ◌∙◌, ap, ap₂}
 use Rattle.state.specs.declared.State.{State}
-use Rattle.refusal.specs.declared.Refused.{Refused}
+use Rattle.refusal.specs.Refused.{Refused}
 use Rattle.answer.specs.declared.Answer.{Answer}
 use Rattle.answer.specs.Outcome.{Outcome, outcome_by}
 use Rattle.answer.specs.Written.{over}

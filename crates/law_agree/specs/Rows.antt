@@ -8,7 +8,7 @@ use Rattle.std.proofs.Math.Dec.{leb, ltb}
 use Rattle.time.specs.declared.When.{When}
 use Rattle.time.specs.Pick.{pick}
 use Rattle.ladder.specs.declared.Ladder.{Ladder}
-use Rattle.ladder.specs.declared.Took.{Took}
+use Rattle.ladder.specs.Took.{Took}
 use Rattle.ladder.specs.Ladder.{take_of}
 use Rattle.settings.specs.declared.Config.{Config}
 use Rattle.epoch.specs.declared.Epoch.{Epoch}

@@ -2,7 +2,7 @@
 use Rattle.std.specs.Prelude.{ℕ, true, ◌≡◌}
 use Rattle.std.proofs.Common.{ap}
 use Rattle.ladder.specs.declared.Ladder.{Ladder}
-use Rattle.ladder.specs.declared.Took.{Took}
+use Rattle.ladder.specs.Took.{Took}
 use Rattle.ladder.specs.Ladder.{remaining, next_at_of, due_rungs, take_of}
 use Rattle.epoch.specs.declared.Final.{Final}
 use Rattle.epoch.specs.declared.MayLadder.{MayLadder}

@@ -10,7 +10,7 @@ use Rattle.time.specs.Time.{reached_of}
 use Rattle.ladder.specs.declared.Ladder.{Ladder}
 use Rattle.ladder.specs.Schedule.{Rung}
 use Rattle.ladder.specs.Ladder.{remaining, first_at, next_at_of, due_of, is_due, due_rungs, taking, untaken, take_of}
-use Rattle.ladder.proofs.Taken.{any-after, counted}
+use Rattle.ladder.proofs.Counted.{any-after, counted}
 
 module _ (l : Ladder) (now : ℕ) where
   pub take_past : reached_of (next_at_of (take_of l now).ladder) now ≡ false

@@ -15,7 +15,7 @@ use Rattle.numbers.specs.Numbers.{refused_settings, refused_profile, refused_can
 use Rattle.state.specs.declared.State.{State}
 use Rattle.state.specs.declared.Profile.{Profile}
 use Rattle.state.specs.Parts.{ladders_of}
-use Rattle.refusal.specs.declared.Refused.{Refused}
+use Rattle.refusal.specs.Refused.{Refused}
 use Rattle.refusal.specs.Refusal.{any_of, profile_bad, cands_bad, epochs_bad, numbers_bad, ladders_bad, Test, accepted, first, numbered, by, by_settings, given_tests, state_tests, link_tests, state_back}
 use Rattle.refusal.specs.First.{rising}
 use Rattle.refusal.proofs.First.{or_left, or_right, first-append}

@@ -12,7 +12,7 @@ use Rattle.cycle.specs.Kind.{is_pend_i, is_pend_r}
 use Rattle.state.specs.declared.State.{State}
 use Rattle.state.specs.declared.Profile.{Profile}
 use Rattle.state.specs.declared.Given.{Given}
-use Rattle.refusal.specs.declared.Refused.{Refused}
+use Rattle.refusal.specs.Refused.{Refused}
 use Rattle.refusal.specs.Refusal.{numbered, before_frame, state_back}
 use Rattle.law_refusal.specs.Sound.{Within, EpochSound, Sound, sound, sounding}
 use Rattle.cutover.specs.declared.Pend.{Pend}

@@ -7,9 +7,9 @@ use Rattle.std.proofs.Math.Path.{refl}
 use Rattle.time.specs.declared.When.{When}
 use Rattle.time.specs.Pick.{pick, and, of_choice}
 use Rattle.ladder.specs.declared.Ladder.{Ladder}
-use Rattle.ladder.specs.declared.Took.{Took}
+use Rattle.ladder.specs.Took.{Took}
 use Rattle.ladder.specs.Ladder.{take_of}
-use Rattle.ladder.proofs.Taken.{counted}
+use Rattle.ladder.proofs.Counted.{counted}
 use Rattle.settings.specs.declared.Config.{Config}
 use Rattle.numbers.specs.Numbers.{event_send, event_prompt, evidence_proof, evidence_assumed, evidence_delay, teardown_opening_idle, teardown_counter_exhausted}
 use Rattle.epoch.specs.declared.Epoch.{Epoch}

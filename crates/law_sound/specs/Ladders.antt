@@ -12,7 +12,7 @@ use Rattle.ladder.specs.declared.Schedule.{Schedule}
 use Rattle.ladder.specs.Schedule.{Rung, Plan, max_rungs, cut, doubling_of, probes_of, laid, made_of, rungs_of, held_of}
 use Rattle.ladder.proofs.Rungs.{length-rungs}
 use Rattle.ladder.specs.Ladder.{remaining, is_due, due_rungs, untaken, take_of}
-use Rattle.ladder.proofs.Taken.{cursor-after}
+use Rattle.ladder.proofs.Counted.{cursor-after}
 use Rattle.settings.specs.declared.Config.{Config}
 use Rattle.params.specs.Params.{budget_of, first_made, elicit_made, revert_made}
 use Rattle.law_refusal.specs.Sound.{Within}

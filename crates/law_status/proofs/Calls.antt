@@ -30,7 +30,7 @@ use Rattle.frame_slots.specs.Frame.{FrameStep, slot_tag, current_frame, previous
 use Rattle.frame.specs.Frames.{frame_refused, heard, frame_answer}
 use Rattle.frame.proofs.Exact.{frame-exact}
 use Rattle.notice_rows.specs.Rows.{is_pending, raised_current, raised_previous, rejected, by_slot, worker_of, already, handed, data_mem, data_sent_of, path_mem, path_of}
-use Rattle.notice_rows.proofs.Laws.{slotted, at-current}
+use Rattle.notice_rows.proofs.Laws.{slotted}
 use Rattle.notice.specs.Notices.{notice_by, worker_answer, delegated_answer, undelegated_answer, data_sent_answer, path_answer}
 use Rattle.poll.specs.Poll.{given_to, accepted_poll, poll_of}
 use Rattle.call_open.specs.Open.{new_memory, first_epoch, alone, fresh_state, blank_state, opened, open_of}
@@ -43,6 +43,11 @@ use Rattle.law_status.specs.Hearing.{reverts, is_reverted, Went}
 use Rattle.law_status.proofs.Hearing.{went_after, current-heard, pending-heard, previous_went}
 use Rattle.law_status.specs.Polls.{Polled}
 use Rattle.law_status.proofs.Polls.{passes-after}
+
+-- a tag of the current epoch has the current epoch's case
+at-current : (s : State) (tag : ℕ) (a b c d : HearStep) → is_tag s.cur.some s.cur.ep.tag tag ≡ true → by_slot s tag a b c d ≡ a
+unfolding by_slot
+at-current s tag a b c d e = rw e
 
 -- ---- an open: nothing was heard, and its epoch starts at its instant
 

@@ -31,7 +31,6 @@ use Rattle.settings.specs.Settings.{failing, first_at, place_of as settings_plac
 use Rattle.params.specs.Params.{last_offset, msg1_span, confirm_of, span_of, rung_of, gap_of, budget_of, first_made, fin_made, probes_made, revert_made, elicit_made, delayed_made, grace_of, with_hold_of}
 use Rattle.candidates.specs.Places.{moved}
 use Rattle.candidates.specs.Repeats.{among, repeated, rises_from}
-use Rattle.items.specs.Arrays.{items_from, opened, list_from}
 use Rattle.items.specs.Items.{before, insert, sorted, listed_in}
 use Rattle.state.specs.Parts.{pending_of, epochs_of, epoch_ladders, cycle_ladders, all_ladders, ladders_of}
 use Rattle.state.specs.Stands.{ladder_view, epoch_view, attempt_view, pend_iView, pend_rView, cycle_view, candidate_view, candidates_view, memory_view, stands}
@@ -272,7 +271,7 @@ pub record Seen : Type 0 where
   pub goes_on : accepted link (poll_at 1500) pair ≡ true
 
 pub seen : Seen
-unfolding fold range kept take_while later_of sat_add sat_mul least most factor_of backoff_of sum_of later_by_of sooner_of lost_of losing ladder_pushed events_pushed put_of ladder_offered listing_offered remaining next_at_of due_rungs taking take_of instant_of cut doubled doubling_of keepalives filled probes_of bits_of laid made_of rung_at ladder_held_of candidates_held_of rungs_of last_of last_send_of failing first_at settings_place_of candidates_place_of last_offset msg1_span confirm_of span_of rung_of gap_of budget_of first_made fin_made probes_made revert_made elicit_made delayed_made grace_of with_hold_of between cand_at held_by without expired_in earliest_of chosen choosing others removed_of kept_after cleared_of expire_of moved among repeated rises_from items_from opened list_from before insert sorted listed_in pending_of epochs_of epoch_ladders cycle_ladders all_ladders ladders_of ladder_view epoch_view attempt_view pend_iView pend_rView cycle_view candidate_view candidates_view memory_view stands at stored events_taken_of reply_taken_of places_of held events_any_of refusal_any_of offered_in any_from sealable words_stay retire_out abandon_out offerable delegate_out trigger_of silence_interval latest_of latest_in trigger_at silence_at floors_passed floor_ends damped_ends backed_ends silence_waits damped_now backed_now triggered_now scheduled_now silent_now kind_of scheduled_waits at_of may_start start_kind start_at called_for ladder_instants may_instants fin_instants elicit_instants drain_items candidate_items pending_items cycle_items current_items named due_items any_due current_instants standing opening_idle teardown_stands offer_owed held_something exhausted cycle_instants stored_instants wake_instants wake_of rising profile_bad is_pending epochs_bad_of numbers_bad ladder_bad ladders_bad spread_bad first given_tests state_tests poll_tests frame_tests link_tests state_back shared_of tags_bad pending_ep standing_bad either_bad epoch_bad held_bad cycle_bad is_tag is_own is_peers grace drain_due unadopted_due late_for probing probe_due delayed_due fin_taken fin_due elicit_taken elicit_due resend_taken resend_due abandoned_mem expire_due prunes pruned demoted given_up spent kept_fin heard_now adopted heard_frame cut_memory remembered announced cutover_of candidate_due cut_by held_due delay_end unconfirmed assumed confirm_due holds turn_alone calls_alone low_step high_step other_step item_step fresh pass_items run_item pass_of passes_of three_passes idle_now tests_out ends_now start_out offer_out going waits_for sealing closing accepted_poll poll_of reaches deliver_out deliver_into blind_to prompt_due staying moves_now heard_first heard_cands moved_first shortened prompted_now stayed_now heard_epoch unassumed reverted_pend heard_any only_assumed confirming hearing heard_current revert_of assumed_heard confirming_heard heard_previous pending_tag slot_tag ended_out pend_of pending_frame current_frame previous_frame slot_frame frame_of heard_tests frame_refused given_of frame_answer setup_rtt setup_first setup_sched attempt_sched attempt_time attempt_of raises_silence silence_after memory_after started_of replied_tests reply_refused reply_of no_ladder no_final no_repeats no_epoch no_drain no_attempt no_pend_i no_pend_r idle no_candidates below_held told_tests told_number told_state told_of outcome_by frame_target
+unfolding fold range kept take_while later_of sat_add sat_mul least most factor_of backoff_of sum_of later_by_of sooner_of lost_of losing ladder_pushed events_pushed put_of ladder_offered listing_offered remaining next_at_of due_rungs taking take_of instant_of cut doubled doubling_of keepalives filled probes_of bits_of laid made_of rung_at ladder_held_of candidates_held_of rungs_of last_of last_send_of failing first_at settings_place_of candidates_place_of last_offset msg1_span confirm_of span_of rung_of gap_of budget_of first_made fin_made probes_made revert_made elicit_made delayed_made grace_of with_hold_of between cand_at held_by without expired_in earliest_of chosen choosing others removed_of kept_after cleared_of expire_of moved among repeated rises_from before insert sorted listed_in pending_of epochs_of epoch_ladders cycle_ladders all_ladders ladders_of ladder_view epoch_view attempt_view pend_iView pend_rView cycle_view candidate_view candidates_view memory_view stands at stored events_taken_of reply_taken_of places_of held events_any_of refusal_any_of offered_in any_from sealable words_stay retire_out abandon_out offerable delegate_out trigger_of silence_interval latest_of latest_in trigger_at silence_at floors_passed floor_ends damped_ends backed_ends silence_waits damped_now backed_now triggered_now scheduled_now silent_now kind_of scheduled_waits at_of may_start start_kind start_at called_for ladder_instants may_instants fin_instants elicit_instants drain_items candidate_items pending_items cycle_items current_items named due_items any_due current_instants standing opening_idle teardown_stands offer_owed held_something exhausted cycle_instants stored_instants wake_instants wake_of rising profile_bad is_pending epochs_bad_of numbers_bad ladder_bad ladders_bad spread_bad first given_tests state_tests poll_tests frame_tests link_tests state_back shared_of tags_bad pending_ep standing_bad either_bad epoch_bad held_bad cycle_bad is_tag is_own is_peers grace drain_due unadopted_due late_for probing probe_due delayed_due fin_taken fin_due elicit_taken elicit_due resend_taken resend_due abandoned_mem expire_due prunes pruned demoted given_up spent kept_fin heard_now adopted heard_frame cut_memory remembered announced cutover_of candidate_due cut_by held_due delay_end unconfirmed assumed confirm_due holds turn_alone calls_alone low_step high_step other_step item_step fresh pass_items run_item pass_of passes_of three_passes idle_now tests_out ends_now start_out offer_out going waits_for sealing closing accepted_poll poll_of reaches deliver_out deliver_into blind_to prompt_due staying moves_now heard_first heard_cands moved_first shortened prompted_now stayed_now heard_epoch unassumed reverted_pend heard_any only_assumed confirming hearing heard_current revert_of assumed_heard confirming_heard heard_previous pending_tag slot_tag ended_out pend_of pending_frame current_frame previous_frame slot_frame frame_of heard_tests frame_refused given_of frame_answer setup_rtt setup_first setup_sched attempt_sched attempt_time attempt_of raises_silence silence_after memory_after started_of replied_tests reply_refused reply_of no_ladder no_final no_repeats no_epoch no_drain no_attempt no_pend_i no_pend_r idle no_candidates below_held told_tests told_number told_state told_of outcome_by frame_target
 seen =
     record {
       passes = refl;

@@ -1,115 +1,80 @@
-// The forms of answers. A form is some lines, with a sign for each part that the row holds:
-//   #   a number
-//   ?   a number, or `-` where the place before it has 0
-//   @   a schedule: its length, its keepalive map and its offsets, in SCHEDULE places
-use leaves_requests::{Form, ROW};
+// The forms of answers, a line that begins with `= `, or some.
+use ladder::{Made, Schedule};
+use leaves_requests::{Answer, Derived, Step};
 use text_lines::Output;
 
-// The output so far, and the place of the next number.
-#[derive(Clone, Copy)]
-struct Pen {
-    o: Output,
-    at: usize,
-}
-
-pub fn write(rt: &impl Print, out: &mut [u8], o: Output, form: Form, v: &[u64; ROW]) -> Output {
-    let forms = b"= #
-= sched @ dropped #
-= next_at ? due # any # send # latest # last # next # taken #
-= place #
-= hold #
-= refused #
-= confirm # span ? grace # rung # gap # budget # inert # #
-= first @
-= fin @
-= probes @
-= revert @
-= elicit @
-= delayed @
-";
-    let start = text::behind(forms, b'\n', form.from);
-    let end = text::behind(forms, b'\n', form.to);
-    fill(rt, out, o, forms, start, end, v)
-}
-
-fn fill(
-    rt: &impl Print,
-    out: &mut [u8],
-    o: Output,
-    forms: &[u8],
-    start: usize,
-    end: usize,
-    v: &[u64; ROW],
-) -> Output {
-    let mut pen = Pen { o: o, at: 0 };
-    let mut i = start;
-    while i < end {
-        pen = write_part(rt, out, pen, byte_at(forms, i), v);
-        i += 1;
+pub fn write(out: &mut Output<'_, '_, impl Print>, answer: &Answer) {
+    match answer {
+        Answer::Number(n) => number(out, b"= ", *n),
+        Answer::Made(made) => write_made(out, made),
+        Answer::Step(step) => write_step(out, step),
+        Answer::Place(place) => number(out, b"= place ", *place as u64),
+        Answer::Hold(hold) => number(out, b"= hold ", *hold),
+        Answer::Refused(check) => number(out, b"= refused ", check.place() as u64),
+        Answer::Derived(derived) => write_derived(out, derived),
     }
-    pen.o
+    out.bytes(b"\n");
 }
 
-// The byte of `s` at `i`, 0 past the end.
-fn byte_at(s: &[u8], i: usize) -> u8 {
-    if i < s.len() { s[i] } else { 0 }
+// What stands before a number, and the number.
+fn number(out: &mut Output<'_, '_, impl Print>, before: &[u8], n: u64) {
+    out.bytes(before);
+    out.number(n);
 }
 
-fn write_part(rt: &impl Print, out: &mut [u8], pen: Pen, sign: u8, v: &[u64; ROW]) -> Pen {
-    match sign {
-        b'#' => write_number(rt, out, pen, v),
-        b'?' => write_optional(rt, out, pen, v),
-        b'@' => write_schedule(rt, out, pen, v),
-        _ => write_byte(rt, out, pen, sign),
+fn flag(out: &mut Output<'_, '_, impl Print>, before: &[u8], on: bool) {
+    number(out, before, on as u64);
+}
+
+// The same, with `-` for none.
+fn optional(out: &mut Output<'_, '_, impl Print>, before: &[u8], n: Option<u64>) {
+    match n {
+        Some(n) => number(out, before, n),
+        None => {
+            out.bytes(before);
+            out.bytes(b"-");
+        }
     }
 }
 
-fn write_byte(rt: &impl Print, out: &mut [u8], pen: Pen, b: u8) -> Pen {
-    let one = [b];
-    Pen {
-        o: pen.o.bytes(rt, out, &one),
-        at: pen.at,
+// The length of a schedule, its keepalive map and its offsets.
+fn schedule(out: &mut Output<'_, '_, impl Print>, before: &[u8], sched: &Schedule) {
+    number(out, before, sched.len as u64);
+    number(out, b" ", sched.keepalive);
+    for at in sched.at.iter().take(sched.len as usize) {
+        number(out, b" ", *at);
     }
 }
 
-fn write_number(rt: &impl Print, out: &mut [u8], pen: Pen, v: &[u64; ROW]) -> Pen {
-    Pen {
-        o: pen.o.number(rt, out, leaves_requests::get(v, pen.at)),
-        at: leaves_requests::after(pen.at, 1),
-    }
+fn write_made(out: &mut Output<'_, '_, impl Print>, made: &Made) {
+    schedule(out, b"= sched ", &made.sched);
+    number(out, b" dropped ", made.dropped as u64);
 }
 
-fn write_optional(rt: &impl Print, out: &mut [u8], pen: Pen, v: &[u64; ROW]) -> Pen {
-    let is_some = leaves_requests::get(v, pen.at);
-    let mut next = pen;
-    next.at = leaves_requests::after(pen.at, 1);
-    if is_some == 1 {
-        return write_number(rt, out, next, v);
-    }
-    next.at = leaves_requests::after(pen.at, 2);
-    write_byte(rt, out, next, b'-')
+fn write_step(out: &mut Output<'_, '_, impl Print>, step: &Step) {
+    optional(out, b"= next_at ", step.next_at);
+    flag(out, b" due ", step.due);
+    flag(out, b" any ", step.any);
+    flag(out, b" send ", step.send);
+    number(out, b" latest ", step.latest);
+    flag(out, b" last ", step.last);
+    number(out, b" next ", step.next as u64);
+    number(out, b" taken ", step.taken);
 }
 
-fn write_schedule(rt: &impl Print, out: &mut [u8], pen: Pen, v: &[u64; ROW]) -> Pen {
-    let len = leaves_requests::byte(leaves_requests::get(v, pen.at));
-    let mut written = write_run(rt, out, pen, len, v);
-    written.at = leaves_requests::after(pen.at, leaves_requests::SCHEDULE);
-    written
-}
-
-// The length and, each behind a space, the keepalive map and `n` offsets.
-fn write_run(rt: &impl Print, out: &mut [u8], pen: Pen, n: u8, v: &[u64; ROW]) -> Pen {
-    let most = n as u64;
-    let mut written = write_number(rt, out, pen, v);
-    let mut i: u64 = 0;
-    while i <= most {
-        written = write_spaced(rt, out, written, v);
-        i += 1;
-    }
-    written
-}
-
-fn write_spaced(rt: &impl Print, out: &mut [u8], pen: Pen, v: &[u64; ROW]) -> Pen {
-    let spaced = write_byte(rt, out, pen, b' ');
-    write_number(rt, out, spaced, v)
+fn write_derived(out: &mut Output<'_, '_, impl Print>, derived: &Derived) {
+    number(out, b"= confirm ", derived.confirm);
+    optional(out, b" span ", derived.span);
+    number(out, b" grace ", derived.grace);
+    number(out, b" rung ", derived.rung);
+    number(out, b" gap ", derived.gap);
+    number(out, b" budget ", derived.budget);
+    number(out, b" inert ", derived.first.dropped as u64);
+    number(out, b" ", derived.probes.dropped as u64);
+    schedule(out, b"\n= first ", &derived.first.sched);
+    schedule(out, b"\n= fin ", &derived.fin);
+    schedule(out, b"\n= probes ", &derived.probes.sched);
+    schedule(out, b"\n= revert ", &derived.revert);
+    schedule(out, b"\n= elicit ", &derived.elicit);
+    schedule(out, b"\n= delayed ", &derived.delayed);
 }

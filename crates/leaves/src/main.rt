@@ -6,97 +6,53 @@
 
 mod forms;
 
-use leaves_requests::{Form, ROW};
+use leaves_requests::Request;
 use std::io::Read;
+use text::Scan;
 use text_lines::{Input, Output};
 
 fn main(rt: HostRuntime) {
     let mut buf = io::large_buffer();
-    let mut out = io::large_buffer();
-    filter(&rt, &mut rt.stdin(), &mut buf, &mut out);
+    let mut room = io::large_buffer();
+    filter(&rt, &mut rt.stdin(), &mut buf, &mut room);
 }
 
-fn filter(rt: &(impl Print + Eprint), from: &mut impl Read, buf: &mut [u8], out: &mut [u8]) {
-    let mut input = Input::new();
-    let mut o = Output::new();
-    let mut number: u64 = 0;
-    while number < 18446744073709551615 {
-        number += 1;
-        let line = input.line(from, buf);
-        input = line.input;
-        if !line.some {
-            text_lines::tell_no_line(rt, number, input);
-            finish(rt, out, o, number);
-            return;
+fn filter(rt: &(impl Print + Eprint), from: &mut impl Read, buf: &mut [u8], room: &mut [u8]) {
+    let mut input = Input::new(from, buf);
+    let mut out = Output::new(rt, room);
+    for number in 1..=u64::MAX {
+        match input.advance() {
+            Ok(true) => {}
+            Ok(false) => return text_lines::finish(&mut out, number),
+            Err(unread) => {
+                text_lines::tell_unread(rt, number, unread);
+                return text_lines::finish(&mut out, number);
+            }
         }
-        let start = line.start;
-        let end = line.end;
-        o = respond(rt, &buf[start..end], out, o, number);
-        if o.failed {
+        if !respond(&mut out, input.line(), number) {
             return;
         }
     }
 }
 
-// Writes out what is left of the answers.
-fn finish(rt: &(impl Print + Eprint), out: &[u8], o: Output, number: u64) {
-    if o.flush(rt, out).failed {
-        text_lines::tell(rt, number, b"the answers cannot be written.");
+// Writes a line and its answers, unless it is an answer itself, and answers whether to go on. Where
+// that fails, or the line does not read, it is told.
+fn respond(out: &mut Output<'_, '_, impl Print + Eprint>, line: &[u8], number: u64) -> bool {
+    if line.starts_with(b"= ") {
+        return true;
     }
-}
-
-// Writes a line and its answers, unless it is an answer itself. Where that fails, or the line does
-// not read, it is told, and the output is left as failed.
-fn respond(
-    rt: &(impl Print + Eprint),
-    line: &[u8],
-    out: &mut [u8],
-    o: Output,
-    number: u64,
-) -> Output {
-    if is_answer(line) {
-        return o;
+    let mut scan = Scan::new(line);
+    match Request::read(&mut scan) {
+        Ok(request) => {
+            out.bytes(line);
+            out.bytes(b"\n");
+            forms::write(out, &request.answer());
+            text_lines::written(out, number)
+        }
+        Err(fault) => {
+            text_lines::finish(out, number);
+            text_lines::tell_fault(out.rt, number, &scan, fault);
+            false
+        }
     }
-    let mut v = [0u64; ROW];
-    let request = leaves_requests::read(line, &mut v);
-    let scan = request.scan;
-    if scan.fault == text::NONE {
-        let form = leaves_requests::answer(request.index, &mut v);
-        return write(rt, line, out, o, number, form, &v);
-    }
-    finish(rt, out, o, number);
-    text_lines::tell_fault(rt, number, line, scan);
-    Output {
-        at: 0,
-        failed: true,
-    }
-}
-
-fn is_answer(line: &[u8]) -> bool {
-    if line.len() < 2 {
-        return false;
-    }
-    if line[0] == b'=' {
-        line[1] == b' '
-    } else {
-        false
-    }
-}
-
-fn write(
-    rt: &(impl Print + Eprint),
-    line: &[u8],
-    out: &mut [u8],
-    o: Output,
-    number: u64,
-    form: Form,
-    v: &[u64; ROW],
-) -> Output {
-    let asked = o.bytes(rt, out, line);
-    let ended = asked.bytes(rt, out, b"\n");
-    let answered = forms::write(rt, out, ended, form, v);
-    if answered.failed {
-        text_lines::tell(rt, number, b"the answers cannot be written.");
-    }
-    answered
 }

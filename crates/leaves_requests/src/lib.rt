@@ -1,11 +1,9 @@
-// Requests to the time, schedules, ladders and settings of a link, and their answers, as rows of
-// numbers.
+// Requests to the time, schedules, ladders and settings of a link, read from a line, and their answers.
+// No function has a `requires`.
 #![tactic(auto)]
 
 mod answers;
-mod patterns;
-mod row;
+mod requests;
 
-pub use answers::{Form, answer};
-pub use patterns::{Request, read};
-pub use row::{ROW, SCHEDULE, after, byte, get};
+pub use answers::{Answer, Derived, Step};
+pub use requests::Request;

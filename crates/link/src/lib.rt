@@ -263,21 +263,14 @@ pub fn siklyavon_status(s: State, cfg: Config, p: Profile, time: u64) -> Shown
 
 // Whether a poll of the lent state is quiet: accepted, with no item due, no start called for, no
 // teardown standing and no offer owed. Then it would give the state back, with no event and count 0;
-// every other poll is for the log. The state is read where it stands: what is copied of it is what
-// the test reads.
+// every other poll is for the log. The state is read where it stands.
 pub fn siklyavon_quiet(s: &State, g: Given, spread: i32) -> bool
     ensures { Tells s.now g spread result }
 {
-    let first = *s;
-    if link_quiet::first_busy(first, g, spread) {
+    if link_quiet::first_busy(s, g, spread) {
         return false;
     }
-    let flags = *s;
-    if link_quiet::alone(flags) {
-        return true;
-    }
-    let other = *s;
-    link_quiet::other_still(other, g)
+    link_quiet::alone(s) || link_quiet::other_still(s, g)
 }
 
 // A sample of the record, for the caller's layout.

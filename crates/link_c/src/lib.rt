@@ -1,6 +1,7 @@
 // The calls of crate link under the same names, exported for Rust and C: each promises what the function that it
 // calls promises, word for word. Records cross by value, laid out as C does; no enum crosses; the log and a
-// frame's two buffers are lent.
+// frame's two buffers are lent. The two stand apart since a program of Rattle takes crate link, and a
+// static library exports what its own crate defines.
 #![tactic(auto)]
 
 ghost use Rattle.std.specs.Prelude.{◌≡◌, []};

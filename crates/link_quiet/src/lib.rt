@@ -1,566 +1,222 @@
 // The quiet test on a state's parts: whether a poll is accepted and has nothing to do. It says what
-// `refusal::before_poll` and `wake::quiet` say, in functions that are used here alone, so that they
-// are compiled into their one caller and no state is copied.
+// `refusal::before_poll` and `wake::quiet` say, and reads the state where it stands.
 //
-// It has two parts, each on a copy of its own: of a copy every field that some test reads is loaded
-// at once, and most states need only the first part.
+// It has two parts, since most states need only the first: what the call is given, the current epoch
+// and the candidates, and then the cycle and the drained epoch.
+//
+// What wake tells as instants is told here as tests, so that the first that holds ends them and the
+// candidates are gone over once. By `wake::quiet`, while that took the state by value, the whole test
+// took 96, 165 and 155 ns on the idle loads of docs/BENCHMARK.md, where this took 27, 49 and 60.
 #![tactic(auto)]
 
-ghost use Rattle.std.specs.Prelude.{◌≤◌, ◌<◌, not, ◌||◌, ◌≡◌, [], ◌++◌};
-ghost use Rattle.time.specs.Pick.{pick};
+ghost use Rattle.std.specs.Prelude.{◌≤◌, ◌<◌, not, ◌||◌, ◌≡◌};
 ghost use Rattle.time.specs.Time.{reached_of};
-ghost use Rattle.candidates.specs.Held.{held_of, firsts, earliest_of};
+ghost use Rattle.candidates.specs.Held.{firsts, earliest_of};
 ghost use Rattle.candidates.specs.Repeats.{repeated};
-ghost use Rattle.state.specs.Parts.{listed};
-ghost use Rattle.refusal.specs.Refusal.{is_pending, epochs_bad_of, tags_of};
-ghost use Rattle.refusal.specs.Standing.{pending_ep, shared_of, tags_bad, standing_bad, either_bad, held_bad, cycle_bad};
-ghost use Rattle.start.specs.Start.{may_start, called_for};
-ghost use Rattle.wake.specs.Due.{ladder_instants, may_instants, fin_instants, elicit_instants, pending_due, cycle_due};
+ghost use Rattle.refusal.specs.Standing.{held_bad};
+ghost use Rattle.wake.specs.Due.{ladder_instants, may_instants, fin_instants, pending_due, cycle_due, current_instants};
 ghost use Rattle.link_quiet.specs.Busy.{owed_of, current_rungs, current_busy, waiting_busy, asked_back, first_busy, alone_of, cycle_busy, drain_busy, epochs_back, other_busy};
 
-use cycle::Cycle;
-use epoch::{Final, MayLadder};
+use candidates::Candidates;
+use cycle::{Cycle, PendI};
+use epoch::{Drain, Epoch, Final, MayEpoch, MayLadder};
 use ladder::Ladder;
-use settings::Config;
-use state::{Given, Profile, State};
-use time::When;
+use numbers::cycle::Stage;
+use numbers::wait::Wait;
+use state::{Given, State};
 
 // ---- instants
 
-// Whether an instant that may be there is reached.
-fn over(some: bool, t: u64, time: u64) -> bool
-    ensures { result ≡ reached_of (earliest_of (listed some t)) time }
+// Whether a rung of a ladder is due.
+#[tactic(auto, using(crate::proofs::Words::rung_words), unfolding(ladder::specs::Ladder::instant_of))]
+fn ladder_due(l: &Ladder, time: u64) -> bool
+    ensures { result ≡ reached_of (earliest_of (ladder_instants l.now)) time }
 {
-    if some { t <= time } else { false }
+    let next = l.next as usize;
+    next < l.sched.rungs() && time::later(l.origin, l.sched.at[next]) <= time
 }
 
-// Whether a rung of a ladder is due. Of its schedule the offsets alone are copied.
-fn ladder_due(l: Ladder, time: u64) -> bool
-    ensures { result ≡ reached_of (earliest_of (ladder_instants l)) time }
+#[tactic(auto, using(crate::proofs::Words::due_words), unfolding(wake::specs::Due::may_instants))]
+fn may_due(m: &MayLadder, time: u64) -> bool
+    ensures { result ≡ reached_of (earliest_of (may_instants m.now)) time }
 {
-    let sched = l.sched;
-    let n = sched.rungs();
-    let k = l.next as usize;
-    if k < n {
-        let at = sched.at;
-        return time::later(l.origin, at[k]) <= time;
-    }
-    false
+    m.some && ladder_due(&m.ladder, time)
 }
 
-fn may_due(m: MayLadder, time: u64) -> bool
-    ensures { result ≡ reached_of (earliest_of (may_instants m)) time }
+#[tactic(auto, using(crate::proofs::Words::due_words), unfolding(wake::specs::Due::fin_instants))]
+fn fin_due(f: &Final, time: u64) -> bool
+    ensures { result ≡ reached_of (earliest_of (fin_instants f.now)) time }
 {
-    if m.some {
-        let l = m.ladder;
-        return ladder_due(l, time);
-    }
-    false
-}
-
-fn fin_due(f: Final, time: u64) -> bool
-    ensures { result ≡ reached_of (earliest_of (fin_instants f)) time }
-{
-    if f.some {
-        let l = f.ladder;
-        return ladder_due(l, time);
-    }
-    false
+    f.some && ladder_due(&f.ladder, time)
 }
 
 // Whether an item of a completed own attempt is due, by its wait.
-fn pending_due(wait: u8, deadline: u64, probes: MayLadder, fin: Final, time: u64) -> bool
-    ensures { result ≡ reached_of (earliest_of (pending_due wait deadline probes fin)) time }
+#[tactic(auto, using(crate::proofs::Words::due_words), unfolding(wake::specs::Due::pending_due))]
+fn pending_due(p: &PendI, time: u64) -> bool
+    ensures { result ≡ reached_of (earliest_of (pending_due p.now.wait p.now.deadline p.now.probes p.now.fin)) time }
 {
-    if wait == numbers::wait::HELD {
-        return deadline <= time;
+    match p.waits() {
+        Wait::Held => p.deadline <= time,
+        Wait::Evidence => may_due(&p.probes, time) || p.deadline <= time,
+        Wait::Delay => fin_due(&p.fin, time) || p.deadline <= time,
     }
-    if wait == numbers::wait::EVIDENCE {
-        if may_due(probes, time) {
-            return true;
-        }
-        return deadline <= time;
-    }
-    if fin_due(fin, time) {
-        return true;
-    }
-    deadline <= time
 }
 
 // Whether an item of the cycle is due.
-fn cycle_due(c: Cycle, time: u64) -> bool
-    ensures { result ≡ reached_of (earliest_of (cycle_due c)) time }
+#[tactic(auto, using(crate::proofs::Words::due_words), unfolding(wake::specs::Due::cycle_due))]
+fn cycle_due(c: &Cycle, time: u64) -> bool
+    ensures { result ≡ reached_of (earliest_of (cycle_due c.now)) time }
 {
-    if c.kind == numbers::cycle::INIT {
-        let l = c.init.ladder;
-        if ladder_due(l, time) {
-            return true;
-        }
-        return c.init.deadline <= time;
+    match c.stage() {
+        Stage::Init => ladder_due(&c.init.ladder, time) || c.init.deadline <= time,
+        Stage::PendI => pending_due(&c.pendi, time),
+        Stage::PendR => c.pendr.deadline <= time,
+        Stage::Idle => false,
     }
-    if c.kind == numbers::cycle::PENDI {
-        let probes = c.pendi.probes;
-        let fin = c.pendi.fin;
-        return pending_due(c.pendi.wait, c.pendi.deadline, probes, fin, time);
-    }
-    if c.kind == numbers::cycle::PENDR {
-        return c.pendr.deadline <= time;
-    }
-    false
 }
 
-// Whether a rung of the current epoch is due.
-fn current_due(some: bool, fin: Final, moved: bool, elicit: MayLadder, time: u64) -> bool
-    ensures { result ≡ reached_of (earliest_of (pick some (fin_instants fin ++ elicit_instants moved elicit) [])) time }
+// Whether a rung of the current epoch is due: its final message's, or its prompt repeats' until the
+// peer is seen to move.
+#[tactic(auto, using(crate::proofs::Words::due_words), unfolding(wake::specs::Due::current_instants, wake::specs::Due::elicit_instants))]
+fn current_due(e: &MayEpoch, time: u64) -> bool
+    ensures { result ≡ reached_of (earliest_of (current_instants e.now)) time }
 {
-    if some {
-        if fin_due(fin, time) {
-            return true;
-        }
-        if moved {
-            return false;
-        }
-        return may_due(elicit, time);
-    }
-    false
+    let prompts = !e.ep.moved.some && may_due(&e.ep.elicit, time);
+    e.some && (fin_due(&e.ep.fin, time) || prompts)
 }
 
 // ---- candidates
 
-// How many are held, whatever the count claims.
-fn count(n: usize) -> usize
-    ensures { result ≡ held_of n }
+// Whether a deadline is reached or two have the same arrival number.
+fn each(v: &Candidates, time: u64) -> bool
+    ensures { result ≡ (reached_of (earliest_of (firsts v.now.len v.now.deadline)) time || repeated (firsts v.now.len v.now.seq)) }
 {
-    if n <= 32 { n } else { 32 }
-}
-
-// Whether one of the first `n` deadlines is reached.
-fn late(a: &[u64; 32], n: usize, time: u64) -> bool
-    ensures { result ≡ reached_of (earliest_of (firsts n a.now)) time }
-{
-    let m = count(n);
-    let mut i: usize = 0;
-    while i < m {
-        if a[i] <= time {
-            return true;
-        }
-        i += 1;
-    }
-    false
-}
-
-// Whether one of the first `n` deadlines is reached or two of the first `n` numbers are equal.
-fn each(deadlines: &[u64; 32], seqs: &[u64; 32], n: usize, time: u64) -> bool
-    ensures { result ≡ (reached_of (earliest_of (firsts n deadlines.now)) time || repeated (firsts n seqs.now)) }
-{
-    if late(deadlines, n, time) {
-        return true;
-    }
-    candidates::repeats(seqs, n)
+    v.earliest().is_some_and(|t| t <= time) || v.repeats()
 }
 
 // The same of one to 32 candidates, in one pass where the numbers rise, as arrival numbers do.
-fn both(deadlines: &[u64; 32], seqs: &[u64; 32], n: usize, time: u64) -> bool
-    requires { (0 < n) × (n ≤ 32) }
-    ensures { result ≡ (reached_of (earliest_of (firsts n deadlines.now)) time || repeated (firsts n seqs.now)) }
+fn both(v: &Candidates, time: u64) -> bool
+    requires { (0 < v.now.len) × (v.now.len ≤ 32) }
+    ensures { result ≡ (reached_of (earliest_of (firsts v.now.len v.now.deadline)) time || repeated (firsts v.now.len v.now.seq)) }
 {
-    if deadlines[0] <= time {
+    if v.deadline[0] <= time {
         return true;
     }
-    let mut last = seqs[0];
-    let mut i: usize = 1;
-    while i < n {
-        if deadlines[i] <= time {
+    let mut last = v.seq[0];
+    for i in 1..v.len {
+        let x = v.seq[i];
+        if v.deadline[i] <= time {
             return true;
         }
-        let x = seqs[i];
         if x <= last {
-            return each(deadlines, seqs, n, time);
+            return each(v, time);
         }
         last = x;
-        i += 1;
     }
     false
 }
 
 // Whether there are more than 32 candidates (3), a deadline of one is reached, or two share a
-// sequence number (5). With none held no array is copied.
-fn waiting_busy(s: State, time: u64) -> bool
-    ensures { result ≡ waiting_busy s time }
+// sequence number (5).
+fn waiting_busy(s: &State, time: u64) -> bool
+    ensures { result ≡ waiting_busy s.now time }
 {
-    if s.cands.len == 0 {
-        return false;
+    match s.cands.len {
+        0 => false,
+        1..=32 => both(&s.cands, time),
+        _ => true,
     }
-    if 32 < s.cands.len {
-        return true;
-    }
-    let deadlines = s.cands.deadline;
-    let seqs = s.cands.seq;
-    both(&deadlines, &seqs, s.cands.len, time)
-}
-
-// ---- ladders and epochs, as refusals 4 to 6 try them
-
-// Whether a ladder that may be absent is bad (6).
-fn standing_bad(some: bool, len: u8, next: u8) -> bool
-    ensures { result ≡ standing_bad some len next }
-{
-    if some {
-        return refusal::ladder_bad(len, next);
-    }
-    false
-}
-
-// Whether one of two ladders that may be absent is bad.
-fn either_bad(a: bool, a_len: u8, a_next: u8, b: bool, b_len: u8, b_next: u8) -> bool
-    ensures { result ≡ either_bad a a_len a_next b b_len b_next }
-{
-    if standing_bad(a, a_len, a_next) {
-        return true;
-    }
-    standing_bad(b, b_len, b_next)
-}
-
-// Whether a ladder of the cycle itself is bad.
-fn cycle_bad(c: Cycle) -> bool
-    ensures { result ≡ cycle_bad c }
-{
-    if c.kind == numbers::cycle::INIT {
-        return refusal::ladder_bad(c.init.ladder.sched.len, c.init.ladder.next);
-    }
-    if c.kind == numbers::cycle::PENDI {
-        return either_bad(
-            c.pendi.fin.some,
-            c.pendi.fin.ladder.sched.len,
-            c.pendi.fin.ladder.next,
-            c.pendi.probes.some,
-            c.pendi.probes.ladder.sched.len,
-            c.pendi.probes.ladder.next,
-        );
-    }
-    false
-}
-
-// Whether a ladder of the pending epoch is bad.
-fn pending_bad(c: Cycle) -> bool
-    ensures { result ≡ held_bad (is_pending c.kind) (pending_ep c) }
-{
-    if c.kind == numbers::cycle::PENDI {
-        return either_bad(
-            c.pendi.ep.fin.some,
-            c.pendi.ep.fin.ladder.sched.len,
-            c.pendi.ep.fin.ladder.next,
-            c.pendi.ep.elicit.some,
-            c.pendi.ep.elicit.ladder.sched.len,
-            c.pendi.ep.elicit.ladder.next,
-        );
-    }
-    if c.kind == numbers::cycle::PENDR {
-        return either_bad(
-            c.pendr.ep.fin.some,
-            c.pendr.ep.fin.ladder.sched.len,
-            c.pendr.ep.fin.ladder.next,
-            c.pendr.ep.elicit.some,
-            c.pendr.ep.elicit.ladder.sched.len,
-            c.pendr.ep.elicit.ladder.next,
-        );
-    }
-    false
-}
-
-// Whether a ladder of the current epoch is bad.
-fn current_bad(s: State) -> bool
-    ensures { result ≡ held_bad s.cur.some s.cur.ep }
-{
-    if s.cur.some {
-        return either_bad(
-            s.cur.ep.fin.some,
-            s.cur.ep.fin.ladder.sched.len,
-            s.cur.ep.fin.ladder.next,
-            s.cur.ep.elicit.some,
-            s.cur.ep.elicit.ladder.sched.len,
-            s.cur.ep.elicit.ladder.next,
-        );
-    }
-    false
-}
-
-// Whether a ladder of the drained epoch is bad.
-fn drained_bad(s: State) -> bool
-    ensures { result ≡ held_bad s.drain.some s.drain.ep }
-{
-    if s.drain.some {
-        return either_bad(
-            s.drain.ep.fin.some,
-            s.drain.ep.fin.ladder.sched.len,
-            s.drain.ep.fin.ladder.next,
-            s.drain.ep.elicit.some,
-            s.drain.ep.elicit.ladder.sched.len,
-            s.drain.ep.elicit.ladder.next,
-        );
-    }
-    false
-}
-
-// Whether a cycle of this kind has a pending epoch.
-fn is_pending(kind: u8) -> bool
-    ensures { result ≡ is_pending kind }
-{
-    if kind == numbers::cycle::PENDI {
-        true
-    } else {
-        kind == numbers::cycle::PENDR
-    }
-}
-
-// Whether a pending or drained epoch stands without a current one (4).
-fn epochs_bad(cur: bool, pending: bool, drain: bool) -> bool
-    ensures { result ≡ epochs_bad_of cur pending drain }
-{
-    if cur {
-        return false;
-    }
-    if pending { true } else { drain }
-}
-
-// The pending epoch's tag, where there is one.
-fn pending_tag(c: Cycle) -> u64
-    ensures { result ≡ (pending_ep c).tag }
-{
-    if c.kind == numbers::cycle::PENDI {
-        return c.pendi.ep.tag;
-    }
-    c.pendr.ep.tag
-}
-
-// Whether both are there and equal.
-fn shared(a: When, b: When) -> bool
-    ensures { result ≡ shared_of a b }
-{
-    if a.some {
-        if b.some {
-            return a.at == b.at;
-        }
-    }
-    false
-}
-
-// Whether two of three tags that are there are equal.
-fn tags_bad(a: When, b: When, c: When) -> bool
-    ensures { result ≡ tags_bad a b c }
-{
-    if shared(a, b) {
-        return true;
-    }
-    if shared(a, c) {
-        return true;
-    }
-    shared(b, c)
-}
-
-// Whether two epochs share a tag (5).
-fn tags_repeat(s: State) -> bool
-    ensures { result ≡ repeated (tags_of s) }
-{
-    let c = s.cycle;
-    let stands = is_pending(s.cycle.kind);
-    let tag = pending_tag(c);
-    let cur = When {
-        some: s.cur.some,
-        at: s.cur.ep.tag,
-    };
-    let pending = When {
-        some: stands,
-        at: tag,
-    };
-    let drained = When {
-        some: s.drain.some,
-        at: s.drain.ep.tag,
-    };
-    tags_bad(cur, pending, drained)
-}
-
-// 4, and 5 of epochs.
-fn epochs_back(s: State) -> bool
-    ensures { result ≡ epochs_back s }
-{
-    let pending = is_pending(s.cycle.kind);
-    if epochs_bad(s.cur.some, pending, s.drain.some) {
-        return true;
-    }
-    tags_repeat(s)
 }
 
 // ---- the first part
 
-// Whether nothing stands against a start.
-fn may_start(s: State) -> bool
-    ensures { result ≡ may_start s }
-{
-    if s.cur.some {
-        if start::idle(s.cycle.kind) {
-            if s.cur.ep.fin.some {
-                return false;
-            }
-            return s.mem.reachable;
-        }
-    }
-    false
-}
-
-// Whether a start is called for.
-fn called_for(s: State, cfg: Config, p: Profile, time: u64) -> bool
-    ensures { result ≡ called_for s cfg p time }
-{
-    if may_start(s) {
-        let mem = s.mem;
-        let k = start::start_kind(mem, cfg, s.cur.ep.started, s.cur.ep.sent, p.silence, time);
-        if k.some {
-            return s.cur.ep.sent < cfg.hard;
-        }
-    }
-    false
-}
-
 // Whether an offer of an epoch is owed.
-fn owed(workers: bool, some: bool, delegated: bool, lease: bool) -> bool
-    ensures { result ≡ owed_of workers some delegated lease }
+#[tactic(auto, unfolding(crate::specs::Busy::owed_of))]
+fn owed(workers: bool, some: bool, e: &Epoch) -> bool
+    ensures { result ≡ owed_of workers some e.now.delegated e.now.ids.lease.some }
 {
-    if workers {
-        if some {
-            if delegated {
-                return false;
-            }
-            return lease;
-        }
-    }
-    false
+    workers && some && !e.delegated && e.ids.lease.some
 }
 
 // Whether a rung of the current epoch is due, or a ladder of it is bad.
-fn current_rungs(s: State, time: u64) -> bool
-    ensures { result ≡ current_rungs s time }
+#[tactic(auto, unfolding(crate::specs::Busy::current_rungs, refusal::specs::Standing::held_bad))]
+fn current_rungs(e: &MayEpoch, time: u64) -> bool
+    ensures { result ≡ (reached_of (earliest_of (current_instants e.now)) time || held_bad e.now.some e.now.ep) }
 {
-    let fin = s.cur.ep.fin;
-    let elicit = s.cur.ep.elicit;
-    if current_due(s.cur.some, fin, s.cur.ep.moved.some, elicit, time) {
-        return true;
-    }
-    current_bad(s)
+    current_due(e, time) || e.some && refusal::epoch_bad(&e.ep)
 }
 
 // Whether a start is called for, a teardown stands, or the current epoch has a rung due, a bad ladder
 // or an offer owed.
-fn current_busy(s: State, cfg: Config, p: Profile, time: u64, workers: bool) -> bool
-    ensures { result ≡ current_busy s cfg p time workers }
+#[tactic(auto, unfolding(crate::specs::Busy::current_busy, crate::specs::Busy::current_rungs))]
+fn current_busy(s: &State, g: Given) -> bool
+    ensures { result ≡ current_busy s.now g.cfg g.profile g.now g.workers }
 {
-    if called_for(s, cfg, p, time) {
-        return true;
-    }
-    if wake::teardown_stands(s, cfg) {
-        return true;
-    }
-    if current_rungs(s, time) {
-        return true;
-    }
-    owed(
-        workers,
-        s.cur.some,
-        s.cur.ep.delegated,
-        s.cur.ep.ids.lease.some,
-    )
+    start::called_for(s, &g.cfg, g.profile, g.now)
+        || wake::teardown_stands(s, &g.cfg)
+        || current_rungs(&s.cur, g.now)
+        || owed(g.workers, s.cur.some, &s.cur.ep)
 }
 
 // Whether the settings fail a check (1), or a profile value (2) or a draw (7) lies outside its range.
-fn asked_back(cfg: Config, p: Profile, spread: i32, extra: u32) -> bool
-    ensures { result ≡ asked_back cfg p spread extra }
+#[tactic(auto, using(refusal::proofs::Settings::place_words), unfolding(crate::specs::Busy::asked_back))]
+fn asked_back(g: Given, spread: i32) -> bool
+    ensures { result ≡ asked_back g.cfg g.profile spread g.extra }
 {
-    if settings::place(cfg) != 0 {
+    if settings::accept(g.cfg).is_err() {
         return true;
     }
-    if refusal::profile_bad(p) {
-        return true;
-    }
-    if refusal::spread_bad(cfg.jitter, spread) {
-        return true;
-    }
-    refusal::extra_bad(cfg.jitter, extra)
+    refusal::profile_bad(g.profile) || refusal::draws_bad(g.cfg.jitter, spread, g.extra)
 }
 
 // Whether what the call is given, the current epoch or a candidate keeps a poll from being quiet.
-pub fn first_busy(s: State, g: Given, spread: i32) -> bool
-    ensures { result ≡ first_busy s g spread }
+#[tactic(auto, unfolding(crate::specs::Busy::first_busy))]
+pub fn first_busy(s: &State, g: Given, spread: i32) -> bool
+    ensures { result ≡ first_busy s.now g spread }
 {
-    let cfg = g.cfg;
-    let p = g.profile;
-    if asked_back(cfg, p, spread, g.extra) {
-        return true;
-    }
-    if current_busy(s, cfg, p, g.now, g.workers) {
-        return true;
-    }
-    waiting_busy(s, g.now)
+    asked_back(g, spread) || current_busy(s, g) || waiting_busy(s, g.now)
 }
 
 // ---- the second part
 
 // Whether there is neither a cycle nor a drained epoch, so that the second part has nothing to find.
-pub fn alone(s: State) -> bool
-    ensures { result ≡ alone_of s }
+#[tactic(auto, unfolding(crate::specs::Busy::alone_of))]
+pub fn alone(s: &State) -> bool
+    ensures { result ≡ alone_of s.now }
 {
-    if start::idle(s.cycle.kind) {
-        if s.drain.some {
-            return false;
-        }
-        return true;
-    }
-    false
+    s.cycle.stage() == Stage::Idle && !s.drain.some
 }
 
 // Whether an item of the cycle is due, or a ladder of it or of its epoch is bad.
-fn cycle_busy(c: Cycle, time: u64) -> bool
-    ensures { result ≡ cycle_busy c time }
+#[tactic(auto, unfolding(crate::specs::Busy::cycle_busy))]
+fn cycle_busy(c: &Cycle, time: u64) -> bool
+    ensures { result ≡ cycle_busy c.now time }
 {
-    if cycle_due(c, time) {
-        return true;
-    }
-    if cycle_bad(c) {
-        return true;
-    }
-    pending_bad(c)
+    cycle_due(c, time) || refusal::cycle_bad(c) || refusal::pending_bad(c)
 }
 
 // Whether the drained epoch's deadline is reached, an offer of it is owed, or a ladder of it is bad.
-fn drain_busy(s: State, time: u64, workers: bool) -> bool
-    ensures { result ≡ drain_busy s.drain time workers }
+#[tactic(auto, using(crate::proofs::Words::due_words), unfolding(crate::specs::Busy::drain_busy, refusal::specs::Standing::held_bad))]
+fn drain_busy(d: &Drain, time: u64, workers: bool) -> bool
+    ensures { result ≡ drain_busy d.now time workers }
 {
-    if over(s.drain.some, s.drain.deadline, time) {
-        return true;
-    }
-    if owed(
-        workers,
-        s.drain.some,
-        s.drain.ep.delegated,
-        s.drain.ep.ids.lease.some,
-    ) {
-        return true;
-    }
-    drained_bad(s)
+    d.some && d.deadline <= time
+        || owed(workers, d.some, &d.ep)
+        || d.some && refusal::epoch_bad(&d.ep)
+}
+
+// 4, and 5 of epochs.
+#[tactic(auto, unfolding(crate::specs::Busy::epochs_back))]
+fn epochs_back(s: &State) -> bool
+    ensures { result ≡ epochs_back s.now }
+{
+    refusal::epochs_bad(s) || refusal::tags_repeat(s)
 }
 
 // Whether neither the cycle nor the drained epoch keeps a poll from being quiet.
-pub fn other_still(s: State, g: Given) -> bool
-    ensures { result ≡ not (other_busy s g) }
+#[tactic(auto, unfolding(crate::specs::Busy::other_busy))]
+pub fn other_still(s: &State, g: Given) -> bool
+    ensures { result ≡ not (other_busy s.now g) }
 {
-    let c = s.cycle;
-    if cycle_busy(c, g.now) {
-        return false;
-    }
-    if drain_busy(s, g.now, g.workers) {
-        return false;
-    }
-    if epochs_back(s) {
-        return false;
-    }
-    true
+    !cycle_busy(&s.cycle, g.now) && !drain_busy(&s.drain, g.now, g.workers) && !epochs_back(s)
 }

@@ -11,6 +11,9 @@ use cycle::{Attempt, Cycle, PendI, PendR};
 use epoch::{Drain, Epoch, Final, Ids, Index, MayEpoch, MayLadder};
 use frame_slots::FrameProof;
 use ladder::{Ladder, Schedule};
+use numbers::cycle::Stage;
+use numbers::slot::Slot;
+use numbers::wait::Wait;
 use settings::Config;
 use state::{Bit, Given, Memory, Profile, State};
 use time::When;
@@ -26,7 +29,7 @@ pub fn rungs() -> Ladder
     };
     Ladder {
         origin: 1,
-        sched: sched,
+        sched,
         next: 5,
     }
 }
@@ -35,11 +38,10 @@ pub fn rungs() -> Ladder
 pub fn last() -> Final
     ensures { result ≡ last_of }
 {
-    let ladder = rungs();
     Final {
         some: true,
         msg: 1,
-        ladder: ladder,
+        ladder: rungs(),
     }
 }
 
@@ -47,10 +49,9 @@ pub fn last() -> Final
 pub fn repeats() -> MayLadder
     ensures { result ≡ repeats_of }
 {
-    let ladder = rungs();
     MayLadder {
         some: true,
-        ladder: ladder,
+        ladder: rungs(),
     }
 }
 
@@ -69,27 +70,25 @@ pub fn keys() -> Epoch
         },
         transport: 6,
     };
-    let fin = last();
-    let elicit = repeats();
     Epoch {
         tag: 1,
         session: 2,
         sent: 3,
-        ids: ids,
+        ids,
         k: true,
         responder: false,
-        base: When { some: true, at: 7 },
+        base: When::of(7),
         started: 8,
-        route: When { some: true, at: 9 },
+        route: When::of(9),
         ext: 10,
         delegated: true,
-        floor: When { some: true, at: 11 },
-        heard: When { some: true, at: 12 },
-        moved: When { some: true, at: 13 },
+        floor: When::of(11),
+        heard: When::of(12),
+        moved: When::of(13),
         assumed: false,
-        fin: fin,
-        elicit: elicit,
-        prompted: When { some: true, at: 14 },
+        fin: last(),
+        elicit: repeats(),
+        prompted: When::of(14),
     }
 }
 
@@ -97,18 +96,19 @@ pub fn keys() -> Epoch
 pub fn held() -> MayEpoch
     ensures { result ≡ held_of }
 {
-    let ep = keys();
-    MayEpoch { some: true, ep: ep }
+    MayEpoch {
+        some: true,
+        ep: keys(),
+    }
 }
 
 #[tactic(auto, unfolding(crate::specs::Sample::kept_of))]
 pub fn kept() -> Drain
     ensures { result ≡ kept_of }
 {
-    let ep = keys();
     Drain {
         some: true,
-        ep: ep,
+        ep: keys(),
         deadline: 1,
         evidenced: false,
     }
@@ -118,7 +118,6 @@ pub fn kept() -> Drain
 pub fn own() -> Attempt
     ensures { result ≡ own_of }
 {
-    let ladder = rungs();
     Attempt {
         hs: 1,
         out: 2,
@@ -128,7 +127,7 @@ pub fn own() -> Attempt
         },
         transport: 4,
         first: 5,
-        ladder: ladder,
+        ladder: rungs(),
         deadline: 6,
         resent: true,
     }
@@ -138,17 +137,14 @@ pub fn own() -> Attempt
 pub fn ready() -> PendI
     ensures { result ≡ ready_of }
 {
-    let ep = keys();
-    let fin = last();
-    let probes = repeats();
     PendI {
-        ep: ep,
-        wait: numbers::wait::EVIDENCE,
+        ep: keys(),
+        wait: Wait::Evidence.number(),
         deadline: 2,
         restart: true,
-        fin: fin,
-        probes: probes,
-        probed: When { some: true, at: 3 },
+        fin: last(),
+        probes: repeats(),
+        probed: When::of(3),
         stayed: false,
         reverted: true,
     }
@@ -158,12 +154,11 @@ pub fn ready() -> PendI
 pub fn theirs() -> PendR
     ensures { result ≡ theirs_of }
 {
-    let ep = keys();
     PendR {
-        ep: ep,
+        ep: keys(),
         deadline: 1,
         restart: true,
-        answer: When { some: true, at: 2 },
+        answer: When::of(2),
     }
 }
 
@@ -171,14 +166,11 @@ pub fn theirs() -> PendR
 pub fn turn() -> Cycle
     ensures { result ≡ turn_of }
 {
-    let init = own();
-    let pendi = ready();
-    let pendr = theirs();
     Cycle {
-        kind: numbers::cycle::INIT,
-        init: init,
-        pendi: pendi,
-        pendr: pendr,
+        kind: Stage::Init.number(),
+        init: own(),
+        pendi: ready(),
+        pendr: theirs(),
     }
 }
 
@@ -207,24 +199,24 @@ pub fn facts(spread: i32) -> Memory
     ensures { result ≡ facts_of spread }
 {
     Memory {
-        peer_epoch: When { some: true, at: 1 },
+        peer_epoch: When::of(1),
         peer_k: Bit {
             some: true,
             on: false,
         },
         jitter: spread,
-        damp: When { some: true, at: 2 },
-        backoff: When { some: true, at: 3 },
+        damp: When::of(2),
+        backoff: When::of(3),
         abandons: 4,
-        last_rx: When { some: true, at: 5 },
-        rx_cur: When { some: true, at: 6 },
+        last_rx: When::of(5),
+        rx_cur: When::of(6),
         sent_data: true,
         silence: 7,
         link_since: 8,
-        last_cutover: When { some: true, at: 9 },
-        hs_rtt: When { some: true, at: 10 },
-        srtt: When { some: true, at: 11 },
-        setup_rto: When { some: true, at: 12 },
+        last_cutover: When::of(9),
+        hs_rtt: When::of(10),
+        srtt: When::of(11),
+        setup_rto: When::of(12),
         reachable: false,
         due: true,
     }
@@ -234,17 +226,12 @@ pub fn facts(spread: i32) -> Memory
 pub fn whole(spread: i32) -> State
     ensures { result ≡ whole_of spread }
 {
-    let mem = facts(spread);
-    let cur = held();
-    let drain = kept();
-    let cycle = turn();
-    let cands = waiting();
     State {
-        mem: mem,
-        cur: cur,
-        drain: drain,
-        cycle: cycle,
-        cands: cands,
+        mem: facts(spread),
+        cur: held(),
+        drain: kept(),
+        cycle: turn(),
+        cands: waiting(),
     }
 }
 
@@ -296,11 +283,9 @@ pub fn flags() -> Profile
 pub fn beside() -> Given
     ensures { result ≡ beside_of }
 {
-    let cfg = values();
-    let profile = flags();
     Given {
-        cfg: cfg,
-        profile: profile,
+        cfg: values(),
+        profile: flags(),
         now: 1,
         workers: true,
         extra: 2,
@@ -313,7 +298,7 @@ pub fn proof() -> FrameProof
 {
     FrameProof {
         tag: 1,
-        slot: numbers::slot::PREVIOUS,
+        slot: Slot::Previous.number(),
         counter: 3,
         k: true,
         len: 4,

@@ -1,7 +1,6 @@
 -- A notice's number in document 01's words: accepted exactly where 1 to 7 pass, and each number exactly
 -- where its sentence is the first to hold.
 use Rattle.std.specs.Prelude.{◌↔◌, ◌≡◌, [], ℤ}
-use Rattle.std.proofs.Math.Logic.Iff
 use Rattle.settings.specs.declared.Config.{Config}
 use Rattle.numbers.specs.Numbers.{refused_draw}
 use Rattle.state.specs.declared.State.{State}

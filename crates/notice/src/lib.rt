@@ -1,6 +1,9 @@
 // The five notices as calls: what a decrypt worker and the path tell is taken, or sent back by number.
 // Each takes what a poll takes except the extra; the spread is tested and not used.
-#![tactic(auto)]
+// The calls are alike in the lines that send back and finish. One function that takes the row as a closure
+// would need a clause on what the closure tells, and each call would be no shorter. The round trip comes
+// from C, so it stays a record.
+#![tactic(auto, using(crate::proofs::Exact::notice_exact))]
 
 ghost use Rattle.notice_rows.specs.Rows.{worker_of, delegated_of, undelegated_of, data_sent_of, path_of};
 ghost use Rattle.frame_hear.specs.Hear.{given_of};
@@ -9,6 +12,7 @@ ghost use Rattle.notice.specs.Notices.{worker_answer, delegated_answer, undelega
 ghost use Rattle.notice.specs.Exact.{NoticeExact};
 
 use answer::Answer;
+use events::Log;
 use settings::Config;
 use state::{Profile, State};
 use time::When;
@@ -29,14 +33,13 @@ pub fn worker(
     ensures worker { Answers (worker_answer s cfg p time workers spread tag k counter) result log.old log.new }
     ensures exact { NoticeExact s cfg p spread (worker_answer s cfg p time workers spread tag k counter) }
 {
-    let _n = lengths::words(log);
-    let back = refusal::before_frame(s, cfg, p, spread);
-    if back.number != 0 {
+    if let Err(back) = refusal::before_frame(&s, cfg, p, spread) {
         return answer::sent_back(back, s);
     }
     let g = frame_hear::given(cfg, p, time, workers);
-    let h = notice_rows::worker(s, g, tag, k, counter, log, 0);
-    answer::finish(h.state, h.len, 0)
+    let mut told = Log::new(log);
+    let left = notice_rows::worker(s, g, tag, k, counter, &mut told);
+    answer::finish(left, told.len(), 0)
 }
 
 // A worker accepted the receive copy of the epoch of `tag`.
@@ -53,13 +56,12 @@ pub fn delegated(
     ensures delegated { Answers (delegated_answer s cfg p spread tag) result log.old log.new }
     ensures exact { NoticeExact s cfg p spread (delegated_answer s cfg p spread tag) }
 {
-    let _n = lengths::words(log);
-    let back = refusal::before_frame(s, cfg, p, spread);
-    if back.number != 0 {
+    if let Err(back) = refusal::before_frame(&s, cfg, p, spread) {
         return answer::sent_back(back, s);
     }
-    let h = notice_rows::delegated(s, tag, log, 0);
-    answer::finish(h.state, h.len, 0)
+    let mut told = Log::new(log);
+    let left = notice_rows::delegated(s, tag, &mut told);
+    answer::finish(left, told.len(), 0)
 }
 
 // The worker that held the epoch of `tag` is gone.
@@ -76,13 +78,12 @@ pub fn undelegated(
     ensures undelegated { Answers (undelegated_answer s cfg p spread tag) result log.old log.new }
     ensures exact { NoticeExact s cfg p spread (undelegated_answer s cfg p spread tag) }
 {
-    let _n = lengths::words(log);
-    let back = refusal::before_frame(s, cfg, p, spread);
-    if back.number != 0 {
+    if let Err(back) = refusal::before_frame(&s, cfg, p, spread) {
         return answer::sent_back(back, s);
     }
-    let h = notice_rows::undelegated(s, tag, log, 0);
-    answer::finish(h.state, h.len, 0)
+    let mut told = Log::new(log);
+    let left = notice_rows::undelegated(s, tag, &mut told);
+    answer::finish(left, told.len(), 0)
 }
 
 // An application message was sealed. It has no event: the log stays as it was.
@@ -98,14 +99,13 @@ pub fn data_sent(
     ensures sent { Answers (data_sent_answer s cfg p spread) result log.old log.new }
     ensures exact { NoticeExact s cfg p spread (data_sent_answer s cfg p spread) }
 {
-    let _n = lengths::words(log);
-    let back = refusal::before_frame(s, cfg, p, spread);
-    if back.number != 0 {
+    if let Err(back) = refusal::before_frame(&s, cfg, p, spread) {
         return answer::sent_back(back, s);
     }
-    let mem = notice_rows::data_sent(s.mem);
-    let mut sealed = s;
-    sealed.mem = mem;
+    let sealed = State {
+        mem: notice_rows::data_sent(s.mem),
+        ..s
+    };
     answer::finish(sealed, 0, 0)
 }
 
@@ -125,13 +125,12 @@ pub fn path(
     ensures path { Answers (path_answer s cfg p spread reachable srtt) result log.old log.new }
     ensures exact { NoticeExact s cfg p spread (path_answer s cfg p spread reachable srtt) }
 {
-    let _n = lengths::words(log);
-    let back = refusal::before_frame(s, cfg, p, spread);
-    if back.number != 0 {
+    if let Err(back) = refusal::before_frame(&s, cfg, p, spread) {
         return answer::sent_back(back, s);
     }
-    let mem = notice_rows::path(s.mem, reachable, srtt);
-    let mut routed = s;
-    routed.mem = mem;
+    let routed = State {
+        mem: notice_rows::path(s.mem, reachable, srtt),
+        ..s
+    };
     answer::finish(routed, 0, 0)
 }

@@ -2,218 +2,163 @@
 // `Undelegated`, `DataSent` and `Path` of machine.rs, each with what `judge` rejects before it.
 #![tactic(auto)]
 
-ghost use Rattle.std.specs.Prelude.{◌≡◌};
-ghost use Rattle.frame_hear.specs.Hear.{Did};
-ghost use Rattle.notice_rows.specs.Rows.{is_pending, by_slot, rejected, put_recv, put_current, put_previous, raised, raised_current, raised_previous, worker_of, already as already_of, handed, delegated_of, undelegated_of, data_mem, path_mem};
-ghost use Rattle.numbers.specs.Numbers.{reason_stale_tag};
+ghost use Rattle.std.specs.Prelude.{◌≡◌, Bool};
 ghost use Rattle.time.specs.Pick.{pick};
+ghost use Rattle.numbers.specs.Cases.{gives_current, gives_previous, gives_pending};
+ghost use Rattle.numbers.specs.Reason.{reason_no};
+ghost use Rattle.epoch.specs.Held.{is_tag};
+ghost use Rattle.frame_hear.specs.Hear.{Did};
+ghost use Rattle.notice_rows.specs.Rows.{is_pending, rejected, put_recv, put_current, put_previous, raised, raised_current, raised_previous, worker_of, already as already_of, handed, delegated_of, undelegated_of, data_mem, path_mem};
 
-use cycle::Cycle;
-use frame_hear::Heard;
-use numbers::reason;
+use events::Log;
+use numbers::reason::Reason;
+use numbers::slot::Slot;
 use state::{Given, Memory, State};
 use time::When;
 
-// Why a tag that neither the current nor the drained epoch has is rejected: `pending` where the pending
-// epoch has it.
-fn why(c: Cycle, tag: u64, pending: u64) -> u64
-    ensures { result ≡ pick (is_pending c tag) pending reason_stale_tag }
+// The slot that holds the epoch of `tag`: the current one is asked first, then the drained and the pending
+// one.
+#[tactic(auto, unfolding(crate::specs::Rows::is_pending))]
+fn slot_of(s: &State, tag: u64) -> Option<Slot>
+    ensures current { is_tag s.now.cur.some s.now.cur.ep.tag tag ≡ gives_current result }
+    ensures previous { pick (is_tag s.now.cur.some s.now.cur.ep.tag tag) Bool.false (is_tag s.now.drain.some s.now.drain.ep.tag tag) ≡ gives_previous result }
+    ensures pending { pick (is_tag s.now.cur.some s.now.cur.ep.tag tag) Bool.false (pick (is_tag s.now.drain.some s.now.drain.ep.tag tag) Bool.false (is_pending s.now.cycle tag)) ≡ gives_pending result }
 {
-    if cycle::is_own(c, tag) {
-        return pending;
+    if epoch::is_tag(s.cur.some, s.cur.ep.tag, tag) {
+        Some(Slot::Current)
+    } else if epoch::is_tag(s.drain.some, s.drain.ep.tag, tag) {
+        Some(Slot::Previous)
+    } else if s.cycle.is_own(tag) || s.cycle.is_peers(tag) {
+        Some(Slot::Pending)
+    } else {
+        None
     }
-    if cycle::is_peers(c, tag) {
-        return pending;
-    }
-    reason::STALE_TAG
 }
 
 // A reject leaves the state and tells its reason.
-fn reject(s: State, reason: u64, log: &mut [u64; 768], len: usize) -> Heard
-    ensures { Did (rejected s reason) len log.old result log.new }
+fn reject(s: State, reason: Reason, log: &mut Log) -> State
+    ensures { Did (rejected s (reason_no reason)) log.old result log.new }
 {
-    let n = events::reject(log, len, reason);
-    Heard { state: s, len: n }
+    log.reject(reason);
+    s
 }
 
 // The highest counter that a worker reported.
+#[tactic(auto, using(time::proofs::Std::std_words), unfolding(crate::specs::Rows::raised))]
 fn raise(floor: When, counter: u64) -> When
     ensures { result ≡ raised floor counter }
 {
-    if floor.some {
-        let at = time::max(floor.at, counter);
-        return When { some: true, at: at };
-    }
-    When {
-        some: true,
-        at: counter,
-    }
+    When::of(floor.get().map_or(counter, |held| held.max(counter)))
 }
 
+// The two changes of an epoch are written for each slot: one field of the state in each, so a function of
+// the slot would be as long.
+
 // `epoch_mut(Current)`, its floor raised to the counter.
-fn raise_current(s: State, counter: u64) -> State
+#[tactic(auto, unfolding(crate::specs::Rows::raised_current))]
+fn raise_current(mut s: State, counter: u64) -> State
     ensures { result ≡ raised_current s counter }
 {
-    let floor = raise(s.cur.ep.floor, counter);
-    let mut ep = s.cur.ep;
-    ep.floor = floor;
-    let mut cur = s.cur;
-    cur.ep = ep;
-    let mut s2 = s;
-    s2.cur = cur;
-    s2
+    s.cur.ep.floor = raise(s.cur.ep.floor, counter);
+    s
 }
 
 // `epoch_mut(Previous)`, its floor raised to the counter.
-fn raise_previous(s: State, counter: u64) -> State
+#[tactic(auto, unfolding(crate::specs::Rows::raised_previous))]
+fn raise_previous(mut s: State, counter: u64) -> State
     ensures { result ≡ raised_previous s counter }
 {
-    let floor = raise(s.drain.ep.floor, counter);
-    let mut ep = s.drain.ep;
-    ep.floor = floor;
-    let mut drain = s.drain;
-    drain.ep = ep;
-    let mut s2 = s;
-    s2.drain = drain;
-    s2
+    s.drain.ep.floor = raise(s.drain.ep.floor, counter);
+    s
 }
 
 // A worker authenticated a frame under `tag`. Its epoch is heard as a frame's is, and a worker never
 // reports a probe.
-pub fn worker(
-    s: State,
-    g: Given,
-    tag: u64,
-    k: bool,
-    counter: u64,
-    log: &mut [u64; 768],
-    len: usize,
-) -> Heard
-    ensures { Did (worker_of s g tag k counter) len log.old result log.new }
+#[tactic(auto, unfolding(crate::specs::Rows::worker_of, crate::specs::Rows::by_slot))]
+pub fn worker(s: State, g: Given, tag: u64, k: bool, counter: u64, log: &mut Log) -> State
+    ensures { Did (worker_of s g tag k counter) log.old result log.new }
 {
-    if epoch::is_tag(s.cur.some, s.cur.ep.tag, tag) {
-        let s2 = raise_current(s, counter);
-        return frame_hear::heard_current(s2, g, k, false, log, len);
+    match slot_of(&s, tag) {
+        Some(Slot::Current) => {
+            frame_hear::heard_current(raise_current(s, counter), g, k, false, log)
+        }
+        Some(Slot::Previous) => frame_hear::heard_previous(raise_previous(s, counter), g, log),
+        Some(Slot::Pending) => reject(s, Reason::NotDelegated, log),
+        None => reject(s, Reason::StaleTag, log),
     }
-    if epoch::is_tag(s.drain.some, s.drain.ep.tag, tag) {
-        let s2 = raise_previous(s, counter);
-        return frame_hear::heard_previous(s2, g, log, len);
-    }
-    let reason = why(s.cycle, tag, reason::NOT_DELEGATED);
-    reject(s, reason, log, len)
 }
 
-// Whether the receive half is where a notice puts it: with a worker, or here.
+// Whether the receive half is already where the notice puts it: with a worker, or here.
+#[tactic(auto, unfolding(crate::specs::Rows::already))]
 fn already(delegated: bool, on: bool) -> bool
     ensures { result ≡ already_of delegated on }
 {
-    if on { delegated } else { !delegated }
+    delegated == on
 }
 
 // `epoch_mut(Current)`, its receive half with a worker or here.
-fn put_current(s: State, on: bool) -> State
+fn put_current(mut s: State, on: bool) -> State
     ensures { result ≡ put_current s (put_recv s.cur.ep on) }
 {
-    let mut s2 = s;
-    let mut cur = s2.cur;
-    cur.ep.delegated = on;
-    s2.cur = cur;
-    s2
+    s.cur.ep.delegated = on;
+    s
 }
 
 // `epoch_mut(Previous)`, its receive half with a worker or here.
-fn put_previous(s: State, on: bool) -> State
+fn put_previous(mut s: State, on: bool) -> State
     ensures { result ≡ put_previous s (put_recv s.drain.ep on) }
 {
-    let mut s2 = s;
-    let mut drain = s2.drain;
-    drain.ep.delegated = on;
-    s2.drain = drain;
-    s2
+    s.drain.ep.delegated = on;
+    s
 }
 
 // The receive half of the epoch of `tag` is with a worker from now on, or here. `same` rejects one that
 // is so already, `early` a pending epoch, which is never offered.
-fn hand(
-    s: State,
-    tag: u64,
-    on: bool,
-    same: u64,
-    early: u64,
-    log: &mut [u64; 768],
-    len: usize,
-) -> Heard
-    ensures { Did (handed s tag on same early) len log.old result log.new }
+#[tactic(auto, unfolding(crate::specs::Rows::handed, crate::specs::Rows::by_slot))]
+fn hand(s: State, tag: u64, on: bool, same: Reason, early: Reason, log: &mut Log) -> State
+    ensures { Did (handed s tag on (reason_no same) (reason_no early)) log.old result log.new }
 {
-    if epoch::is_tag(s.cur.some, s.cur.ep.tag, tag) {
-        if already(s.cur.ep.delegated, on) {
-            return reject(s, same, log, len);
-        }
-        let s2 = put_current(s, on);
-        return Heard {
-            state: s2,
-            len: len,
-        };
+    match slot_of(&s, tag) {
+        Some(Slot::Current) if already(s.cur.ep.delegated, on) => reject(s, same, log),
+        Some(Slot::Current) => put_current(s, on),
+        Some(Slot::Previous) if already(s.drain.ep.delegated, on) => reject(s, same, log),
+        Some(Slot::Previous) => put_previous(s, on),
+        Some(Slot::Pending) => reject(s, early, log),
+        None => reject(s, Reason::StaleTag, log),
     }
-    if epoch::is_tag(s.drain.some, s.drain.ep.tag, tag) {
-        if already(s.drain.ep.delegated, on) {
-            return reject(s, same, log, len);
-        }
-        let s2 = put_previous(s, on);
-        return Heard {
-            state: s2,
-            len: len,
-        };
-    }
-    let reason = why(s.cycle, tag, early);
-    reject(s, reason, log, len)
 }
 
 // A worker accepted the receive copy of the epoch of `tag`.
-pub fn delegated(s: State, tag: u64, log: &mut [u64; 768], len: usize) -> Heard
-    ensures { Did (delegated_of s tag) len log.old result log.new }
+pub fn delegated(s: State, tag: u64, log: &mut Log) -> State
+    ensures { Did (delegated_of s tag) log.old result log.new }
 {
-    hand(
-        s,
-        tag,
-        true,
-        reason::ALREADY_DELEGATED,
-        reason::NOT_OFFERED,
-        log,
-        len,
-    )
+    let same = Reason::AlreadyDelegated;
+    hand(s, tag, true, same, Reason::NotOffered, log)
 }
 
 // The worker that held the epoch of `tag` is gone.
-pub fn undelegated(s: State, tag: u64, log: &mut [u64; 768], len: usize) -> Heard
-    ensures { Did (undelegated_of s tag) len log.old result log.new }
+pub fn undelegated(s: State, tag: u64, log: &mut Log) -> State
+    ensures { Did (undelegated_of s tag) log.old result log.new }
 {
-    hand(
-        s,
-        tag,
-        false,
-        reason::NOT_DELEGATED,
-        reason::NOT_DELEGATED,
-        log,
-        len,
-    )
+    let reason = Reason::NotDelegated;
+    hand(s, tag, false, reason, reason, log)
 }
 
 // An application message was sealed.
-pub fn data_sent(m: Memory) -> Memory
+#[tactic(auto, unfolding(crate::specs::Rows::data_mem))]
+pub fn data_sent(mut m: Memory) -> Memory
     ensures { result ≡ data_mem m }
 {
-    let mut m2 = m;
-    m2.sent_data = true;
-    m2
+    m.sent_data = true;
+    m
 }
 
 // Whether a next hop exists, and the smoothed round trip if it was measured.
-pub fn path(m: Memory, reachable: bool, srtt: When) -> Memory
+#[tactic(auto, unfolding(crate::specs::Rows::path_mem))]
+pub fn path(mut m: Memory, reachable: bool, srtt: When) -> Memory
     ensures { result ≡ path_mem m reachable srtt }
 {
-    let mut m2 = m;
-    m2.reachable = reachable;
-    m2.srtt = srtt;
-    m2
+    m.reachable = reachable;
+    m.srtt = srtt;
+    m
 }

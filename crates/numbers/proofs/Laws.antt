@@ -1,13 +1,11 @@
 -- Each list is in its source's order, so that a number is the case's place; and the number of a reason tells
 -- the reason.
-use Rattle.std.specs.Prelude.{ℕ, true, List, [], ◌∷◌, ◌≡◌, refl, eqb, get_or}
+use Rattle.std.specs.Prelude.{ℕ, List, [], ◌∷◌, ◌≡◌, refl, get_or}
 use Rattle.std.proofs.Common.{sym, ◌∙◌, ap}
-use Rattle.numbers.specs.declared.attribution.Attribution.{Attribution}
-use Rattle.numbers.specs.declared.attribution.Attribution.TheVariants.{Peer, Network, Local}
 use Rattle.numbers.specs.declared.reason.Reason.{Reason}
 use Rattle.numbers.specs.declared.reason.Reason.TheVariants.{EpochChanged, AnsweredBefore, OffLink, PendingHeld, DualInitWon, IndexExhausted, HandshakeWrite, ReplyUnauthenticated, LateReply, UnknownAttempt, UnknownIndex, SetupMalformed, TieBreakKept, CandidatesFull, FinalNoAttempt, FinalUnauthenticated, KeyMismatch, StaleIncarnation, Replay, FrameUnauthenticated, ShortPlaintext, DelegatedEpoch, NotEstablished, StaleTag, NotDelegated, AlreadyDelegated, NotOffered, AttemptInFlight, AlreadyEstablished, CandidateExpired, NotRekey}
-use Rattle.numbers.specs.Numbers.{reason_tie_break_kept, events, messages, slots, purposes, evidences, starts, items, cycles, waits, attributions, reasons, abandons, teardowns, closes, refusals}
-use Rattle.numbers.specs.Reason.{reason_no, attribution_of, reachable_of}
+use Rattle.numbers.specs.Numbers.{events, messages, slots, purposes, evidences, starts, items, cycles, waits, attributions, reasons, abandons, teardowns, closes, refusals}
+use Rattle.numbers.specs.Reason.{reason_no}
 
 -- ---- the lists, in their sources' order
 
@@ -72,16 +70,6 @@ pub refusals_in_order : refusals ≡ 1 ∷ 2 ∷ 3 ∷ 4 ∷ 5 ∷ 6 ∷ 7 ∷ 8
 refusals_in_order = refl
 
 -- ---- reasons
-
-module _ (r : Reason) (a : Attribution) (n : ℕ) (e : a ≡ attribution_of r) (f : n ≡ reason_no r) where
-  pub network_reached : a ≡ Network → true ≡ reachable_of r
-  network_reached g = rw (← e, g)
-
-  pub peer_reached : a ≡ Peer → eqb n reason_tie_break_kept ≡ reachable_of r
-  peer_reached g = rw (← e, ← f, g)
-
-  pub local_reached : a ≡ Local → eqb n reason_tie_break_kept ≡ reachable_of r
-  local_reached g = rw (← e, ← f, g)
 
 -- the cases in the source's order
 source_order : List Reason

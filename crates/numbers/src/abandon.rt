@@ -4,7 +4,7 @@ ghost use Rattle.numbers.specs.Numbers.{abandons};
 ghost use Rattle.numbers.specs.Reason.{abandon_no};
 
 // Why an own attempt or a held epoch was given up.
-#[derive(Clone, Copy)]
+#[derive(Clone, Copy, PartialEq, Eq)]
 pub enum Abandon {
     // A drain reached its ceiling with no frame showing that the peer moved.
     AdoptionNotSeen,

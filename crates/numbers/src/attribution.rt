@@ -4,7 +4,7 @@ ghost use Rattle.numbers.specs.Numbers.{attributions};
 ghost use Rattle.numbers.specs.Reason.{attribution_no};
 
 // Who an outcome is attributed to.
-#[derive(Clone, Copy)]
+#[derive(Clone, Copy, PartialEq, Eq)]
 pub enum Attribution {
     // The authenticated peer did it.
     Peer,

@@ -4,7 +4,7 @@ ghost use Rattle.numbers.specs.Numbers.{closes};
 ghost use Rattle.numbers.specs.Reason.{close_no};
 
 // Why the shell closed a machine.
-#[derive(Clone, Copy)]
+#[derive(Clone, Copy, PartialEq, Eq)]
 pub enum Close {
     // The peer restarted, seen at node level.
     Restart,

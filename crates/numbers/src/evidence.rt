@@ -1,24 +1,52 @@
 // How an epoch became current: places in `EvidenceKind` (proof.rs).
 ghost use Rattle.std.specs.Prelude.{◌≡◌};
 ghost use Rattle.numbers.specs.Numbers.{evidences};
+ghost use Rattle.numbers.specs.Cases.{evidence_no};
 
-// The completion proves that the peer holds the keys.
+// How an epoch became current.
+#[derive(Clone, Copy, PartialEq, Eq)]
+pub enum Evidence {
+    // The completion proves that the peer holds the keys.
+    Proof,
+    // A frame of the peer authenticated under the epoch.
+    Frame,
+    // The completion revealed a restart.
+    Restart,
+    // The confirmation deadline passed with nothing heard.
+    Assumed,
+    // The deadline of a delayed cutover passed.
+    Delay,
+    // The first handshake of a session.
+    First,
+}
+
 pub const PROOF: u64 = 0;
 
-// A frame of the peer authenticated under the epoch.
 pub const FRAME: u64 = 1;
 
-// The completion revealed a restart.
 pub const RESTART: u64 = 2;
 
-// The confirmation deadline passed with nothing heard.
 pub const ASSUMED: u64 = 3;
 
-// The deadline of a delayed cutover passed.
 pub const DELAY: u64 = 4;
 
-// The first handshake of a session.
 pub const FIRST: u64 = 5;
+
+impl Evidence {
+    // The place in the source's list, from 0.
+    pub fn number(self) -> u64
+        ensures { result ≡ evidence_no self }
+    {
+        match self {
+            Evidence::Proof => PROOF,
+            Evidence::Frame => FRAME,
+            Evidence::Restart => RESTART,
+            Evidence::Assumed => ASSUMED,
+            Evidence::Delay => DELAY,
+            Evidence::First => FIRST,
+        }
+    }
+}
 
 // All of them, in order.
 pub fn all() -> [u64; 6]

@@ -1,6 +1,26 @@
 // The kinds of due items, in the order in which rows are processed where instants tie: places in `Due` (machine.rs).
 ghost use Rattle.std.specs.Prelude.{◌≡◌};
 ghost use Rattle.numbers.specs.Numbers.{items};
+ghost use Rattle.numbers.specs.Cases.{kind_no};
+
+// The kind of a due item.
+#[derive(Clone, Copy, PartialEq, Eq)]
+pub enum Kind {
+    Drain,
+    Candidate,
+    Unadopted,
+    Held,
+    Probe,
+    Delayed,
+    Fin,
+    Elicit,
+    Confirm,
+    DelayEnd,
+    // No key: 0 stands for it.
+    Resend,
+    // No key: 0 stands for it.
+    Expire,
+}
 
 pub const DRAIN: u64 = 0;
 
@@ -22,11 +42,31 @@ pub const CONFIRM: u64 = 8;
 
 pub const DELAY_END: u64 = 9;
 
-// No key: 0 stands for it.
 pub const RESEND: u64 = 10;
 
-// No key: 0 stands for it.
 pub const EXPIRE: u64 = 11;
+
+impl Kind {
+    // The place in the source's list, from 0.
+    pub fn number(self) -> u64
+        ensures { result ≡ kind_no self }
+    {
+        match self {
+            Kind::Drain => DRAIN,
+            Kind::Candidate => CANDIDATE,
+            Kind::Unadopted => UNADOPTED,
+            Kind::Held => HELD,
+            Kind::Probe => PROBE,
+            Kind::Delayed => DELAYED,
+            Kind::Fin => FIN,
+            Kind::Elicit => ELICIT,
+            Kind::Confirm => CONFIRM,
+            Kind::DelayEnd => DELAY_END,
+            Kind::Resend => RESEND,
+            Kind::Expire => EXPIRE,
+        }
+    }
+}
 
 // All of them, in order.
 pub fn all() -> [u64; 12]

@@ -1,5 +1,8 @@
 // Every number that stands for something, by name: a module a list, which `all` hands back in order.
-// specs/Numbers.antt has the same names for definitions. The lists of reason.rs are enums too.
+// specs/Numbers.antt has the same names for definitions. Every list is an enum too, but the kinds of
+// events, which `events::Log` has a method each for, and the refusals, which are `refusal::Refusal`.
+// The constants stay, since words of the log and the header of C have them. `all` and `number` stand
+// in each module: the constants differ, and no macro may write items.
 #![tactic(auto)]
 
 pub mod abandon;

@@ -6,7 +6,7 @@ ghost use Rattle.numbers.specs.Reason.{reason_no, attribution_of, reachable_of};
 use crate::attribution::Attribution;
 
 // Why an input changed nothing, or, where its row says so, only the candidate list or the replay record.
-#[derive(Clone, Copy)]
+#[derive(Clone, Copy, PartialEq, Eq)]
 pub enum Reason {
     // An IK msg1 carried a startup epoch other than the peer's.
     EpochChanged,
@@ -220,12 +220,7 @@ impl Reason {
     pub fn unauthenticated_reachable(self) -> bool
         ensures { result ≡ reachable_of self }
     {
-        let who = self.attribution();
-        match who {
-            Attribution::Network => true,
-            Attribution::Peer => self.number() == TIE_BREAK_KEPT,
-            Attribution::Local => self.number() == TIE_BREAK_KEPT,
-        }
+        self.attribution() == Attribution::Network || self == Reason::TieBreakKept
     }
 }
 

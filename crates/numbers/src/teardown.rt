@@ -4,7 +4,7 @@ ghost use Rattle.numbers.specs.Numbers.{teardowns};
 ghost use Rattle.numbers.specs.Reason.{teardown_no};
 
 // Why the shell must close the machine.
-#[derive(Clone, Copy)]
+#[derive(Clone, Copy, PartialEq, Eq)]
 pub enum Teardown {
     // A first handshake with no attempt and no candidate left.
     OpeningIdle,

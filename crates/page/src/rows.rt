@@ -1,192 +1,166 @@
 // The rows that the lists want, one after another: those of every list by number, then the settings
 // and the profile with their defaults.
 use settings::Config;
-use text_words::Argument;
+use text::Fault;
+use text_form::{Fields, Slot};
+use text_lines::{put, put_number};
+use text_lists::{Entry, Event, List, UNKNOWN};
+use text_records::Record;
 
 // No row begins with more.
 pub const LONGEST: usize = 256;
 
-// A list, and the number of an entry in it. Behind the lists stand the settings and the profile.
+// What has a table on the page.
+#[derive(Clone, Copy)]
+enum Table {
+    Events,
+    Of(List),
+    Settings,
+    Profile,
+}
+
+// The tables in their order.
+static TABLES: [Table; 16] = [
+    Table::Events,
+    Table::Of(List::Messages),
+    Table::Of(List::Slots),
+    Table::Of(List::Purposes),
+    Table::Of(List::Roles),
+    Table::Of(List::Evidence),
+    Table::Of(List::Reasons),
+    Table::Of(List::Causes),
+    Table::Of(List::Teardowns),
+    Table::Of(List::Starts),
+    Table::Of(List::Cycles),
+    Table::Of(List::Waits),
+    Table::Of(List::Refusals),
+    Table::Of(List::Places),
+    Table::Settings,
+    Table::Profile,
+];
+
+// A row: the place of its table, and its number there.
 #[derive(Clone, Copy)]
 pub struct Row {
-    pub list: u8,
-    pub number: u64,
+    table: usize,
+    number: u64,
 }
 
-const SETTINGS: u8 = text_lists::LISTS;
-
-const PROFILE: u8 = SETTINGS + 1;
-
-const DONE: u8 = PROFILE + 1;
-
-pub fn first() -> Row {
-    Row { list: 0, number: 0 }
+// What a row begins with.
+#[derive(Clone, Copy)]
+pub enum Head {
+    // A number, a name and its words.
+    Entry(u64, Entry),
+    // A name and its default.
+    Default(&'static [u8], u64),
 }
 
-pub fn is_done(row: Row) -> bool {
-    row.list == DONE
-}
+// What a row wants where no more is wanted.
+pub const NO_ROW: Head = Head::Entry(0, UNKNOWN);
 
-// The row behind `row`: the next number, or the first of the next list.
-pub fn next(row: Row) -> Row {
-    let after = Row {
-        list: row.list,
-        number: time::sat_add(row.number, 1),
+impl Row {
+    pub const FIRST: Row = Row {
+        table: 0,
+        number: 0,
     };
-    if is_there(after) {
-        return after;
-    }
-    if row.list < DONE {
-        return start(row.list + 1);
-    }
-    row
-}
 
-// Refusals and their places are counted from 1.
-fn start(list: u8) -> Row {
-    match list {
-        text_lists::REFUSALS | text_lists::PLACES => Row {
-            list: list,
-            number: 1,
-        },
-        _ => Row {
-            list: list,
-            number: 0,
-        },
-    }
-}
-
-fn is_there(row: Row) -> bool {
-    let list = row.list;
-    match list {
-        SETTINGS => row.number < 23,
-        PROFILE => row.number < 5,
-        _ => is_entry(row),
-    }
-}
-
-// Where a list has no such number it says so.
-fn is_entry(row: Row) -> bool {
-    let mut e = [0u8; text_lists::ENTRY];
-    text_lists::entry(row.list, row.number, &mut e);
-    !begins(&e, b"unknown", 7)
-}
-
-// Whether the first `n` bytes of two are the same.
-pub fn begins(a: &[u8], b: &[u8], n: usize) -> bool {
-    let mut i: usize = 0;
-    while i < n {
-        if byte_at(a, i) != byte_at(b, i) {
-            return false;
+    // The row behind this one: the next number, or the first of the next table.
+    pub fn next(self) -> Option<Row> {
+        let after = Row {
+            table: self.table,
+            number: self.number.saturating_add(1),
+        };
+        if after.head().is_some() {
+            return Some(after);
         }
-        i += 1;
+        let table = self.table.saturating_add(1);
+        let number = match TABLES.get(table)? {
+            Table::Of(list) => list.first(),
+            _ => 0,
+        };
+        Some(Row { table, number })
     }
-    true
+
+    // What it begins with, if there is such a row.
+    pub fn head(self) -> Option<Head> {
+        let n = self.number;
+        match TABLES.get(self.table)? {
+            Table::Events => Some(Head::Entry(n, Event::get(n)?.entry)),
+            Table::Of(list) => Some(Head::Entry(n, *list.get(n)?)),
+            Table::Settings => default_of(&mut Config::fmp(), n),
+            Table::Profile => default_of(&mut text_records::plain_profile(), n),
+        }
+    }
 }
 
-fn byte_at(s: &[u8], i: usize) -> u8 {
-    if i < s.len() { s[i] } else { 0 }
+// Finds a field by its place among those of a record: how many stand before it, and then its name and
+// value.
+#[derive(Clone, Copy)]
+struct Finder {
+    left: u64,
+    found: Option<Head>,
 }
 
-// Puts what a row begins with, and answers how long it is.
-pub fn put_row(row: Row, to: &mut [u8]) -> usize {
-    let list = row.list;
-    match list {
-        SETTINGS => put_setting(row.number, to),
-        PROFILE => put_profile(row.number, to),
-        _ => put_entry(row, to),
+impl Finder {
+    fn new(left: u64) -> Finder {
+        Finder { left, found: None }
+    }
+}
+
+impl Fields for Finder {
+    fn field(&mut self, name: &'static [u8], slot: Slot<'_>) -> Result<(), Fault> {
+        if self.left == 0 && self.found.is_none() {
+            self.found = Some(Head::Default(name, value(slot)));
+        }
+        self.left = self.left.saturating_sub(1);
+        Ok(())
+    }
+}
+
+// The number in a slot; neither the settings nor the profile has another kind of slot than these.
+fn value(slot: Slot<'_>) -> u64 {
+    match slot {
+        Slot::Number(n) => *n,
+        Slot::Byte(n, _) => *n as u64,
+        Slot::Half(n) => *n as u64,
+        Slot::Flag(on) => *on as u64,
+        _ => 0,
+    }
+}
+
+// The name and the default of field `n` of a record that has its defaults.
+fn default_of(record: &mut impl Record, n: u64) -> Option<Head> {
+    let mut finder = Finder::new(n);
+    record.fields(&mut finder).ok()?;
+    finder.found
+}
+
+impl Head {
+    // Puts it to the front of `to`, and answers how long it is.
+    pub fn put(self, to: &mut [u8]) -> usize {
+        match self {
+            Head::Entry(number, entry) => put_entry(number, entry, to),
+            Head::Default(name, value) => put_default(name, value, to),
+        }
     }
 }
 
 // `| number | `name` | words | `
-fn put_entry(row: Row, to: &mut [u8]) -> usize {
-    let mut e = [0u8; text_lists::ENTRY];
-    text_lists::entry(row.list, row.number, &mut e);
-    let bar = text_lines::put(to, 0, b"| ");
-    let numbered = text_lines::put_number(to, bar, row.number);
-    put_named(&e, to, numbered)
-}
-
-fn put_named(e: &[u8], to: &mut [u8], at: usize) -> usize {
-    let name = text::next_field(e, 0);
-    let open = text_lines::put(to, at, b" | `");
-    let named = put_part(to, open, e, name.start, name.end);
-    put_words(e, to, named)
-}
-
-fn put_words(e: &[u8], to: &mut [u8], at: usize) -> usize {
-    let colon = text::find(e, 0, b':');
-    let end = text::find(e, 0, b'\n');
-    let closed = text_lines::put(to, at, b"` | ");
-    let worded = put_part(to, closed, e, behind(colon), end);
-    text_lines::put(to, worded, b" | ")
-}
-
-fn behind(i: usize) -> usize {
-    if i < text_lists::ENTRY { i + 2 } else { i }
-}
-
-fn put_part(to: &mut [u8], at: usize, s: &[u8], from: usize, end: usize) -> usize {
-    if s.len() < end {
-        return at;
-    }
-    if end < from {
-        return at;
-    }
-    text_lines::put(to, at, &s[from..end])
+fn put_entry(number: u64, entry: Entry, to: &mut [u8]) -> usize {
+    let bar = put(to, 0, b"| ");
+    let numbered = put_number(to, bar, number);
+    let open = put(to, numbered, b" | `");
+    let named = put(to, open, entry.name);
+    let closed = put(to, named, b"` | ");
+    let worded = put(to, closed, entry.words);
+    put(to, worded, b" | ")
 }
 
 // `| `name` | default | `
-fn put_setting(number: u64, to: &mut [u8]) -> usize {
-    let mut v = [0u64; text_form::places::SETTINGS];
-    let cfg = Config::fmp();
-    text_records::keep_config(&mut v, cfg);
-    put_default(
-        text_words::SETTINGS,
-        number,
-        text_form::get(&v, place(number)),
-        to,
-    )
-}
-
-fn put_profile(number: u64, to: &mut [u8]) -> usize {
-    let mut v = [0u64; text_form::places::PROFILE];
-    let p = text_records::plain_profile();
-    text_records::keep_profile(&mut v, p);
-    put_default(
-        text_words::PROFILE,
-        number,
-        text_form::get(&v, place(number)),
-        to,
-    )
-}
-
-fn place(n: u64) -> usize {
-    if n < 64 { n as usize } else { 64 }
-}
-
-fn put_default(part: u8, number: u64, default: u64, to: &mut [u8]) -> usize {
-    let mut e = [0u8; text_words::ENTRY];
-    text_words::entry(part, &mut e);
-    let a = argument(&e, number);
-    let open = text_lines::put(to, 0, b"| `");
-    let named = put_part(to, open, &e, a.name, a.name_end);
-    put_value(to, named, default)
-}
-
-fn put_value(to: &mut [u8], at: usize, n: u64) -> usize {
-    let closed = text_lines::put(to, at, b"` | ");
-    let valued = text_lines::put_number(to, closed, n);
-    text_lines::put(to, valued, b" | ")
-}
-
-// Argument `number` of an entry, from 0.
-fn argument(e: &[u8], number: u64) -> Argument {
-    let mut a = text_words::argument_at(e, text_words::first(e));
-    let mut i: u64 = 0;
-    while i < number {
-        a = text_words::argument_at(e, a.next);
-        i += 1;
-    }
-    a
+fn put_default(name: &[u8], value: u64, to: &mut [u8]) -> usize {
+    let open = put(to, 0, b"| `");
+    let named = put(to, open, name);
+    let closed = put(to, named, b"` | ");
+    let valued = put_number(to, closed, value);
+    put(to, valued, b" | ")
 }

@@ -3,15 +3,13 @@ use Rattle.std.specs.Prelude.{ℕ, ◌+◌, ◌-◌, ◌*◌, ◌/◌}
 use Rattle.time.specs.declared.When.{When}
 use Rattle.time.specs.Pick.{pick}
 use Rattle.time.specs.Time.{end, none, at, sat_add, sum_of, least, most}
+use Rattle.time.specs.Options.{option_of}
 use Rattle.ladder.specs.declared.Schedule.{Schedule}
 use Rattle.ladder.specs.declared.Made.{Made}
 use Rattle.ladder.specs.Schedule.{max_rungs, made_of, doubling_of, probes_of, rungs_of, last_send_of}
 use Rattle.settings.specs.declared.Config.{Config}
 use Rattle.settings.specs.Settings.{place_of}
-use Rattle.params.specs.declared.Lengths.{Lengths}
-use Rattle.params.specs.declared.Schedules.{Schedules}
 use Rattle.params.specs.declared.Params.{Params}
-use Rattle.params.specs.declared.NewParams.{NewParams}
 
 -- a number that may be absent, or n in its place (`unwrap_or`)
 abbrev pub value_or : ℕ → When → ℕ
@@ -132,35 +130,13 @@ with_hold_of cfg silence = holding cfg (most (most cfg.retention (retry_of cfg))
 
 -- ---- `Params::new`
 
-unfoldable pub lengths_of : Config → Lengths
-lengths_of cfg =
-    record {
-      confirm = confirm_of cfg;
-      span = span_of cfg;
-      grace = grace_of cfg;
-      rung = rung_of cfg;
-      gap = gap_of cfg;
-      budget = budget_of cfg;
-    }
-
-unfoldable pub schedules_of : Config → Schedules
-schedules_of cfg =
-    record {
-      first = first_made cfg;
-      fin = fin_made cfg;
-      probes = probes_made cfg;
-      revert = revert_made cfg;
-      elicit = elicit_made cfg;
-      delayed = delayed_made cfg;
-    }
-
 -- every derived value
 unfoldable pub params_of : Config → Params
 params_of cfg =
     record {
       cfg = cfg;
       confirm = confirm_of cfg;
-      span = span_of cfg;
+      span = option_of (span_of cfg);
       grace = grace_of cfg;
       rung = rung_of cfg;
       gap = gap_of cfg;
@@ -174,6 +150,11 @@ params_of cfg =
       inert = record { first = (first_made cfg).dropped; probes = (probes_made cfg).dropped };
     }
 
--- the checks' verdict beside them
+-- the place of the first check that refuses the settings, 0 where they are accepted, and the derived values, which
+-- mean something only then
+pub record NewParams : Type 0 where
+  pub place : ℕ
+  pub params : Params
+
 unfoldable pub new_of : Config → NewParams
 new_of cfg = record { place = place_of cfg; params = params_of cfg }

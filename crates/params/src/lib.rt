@@ -5,13 +5,14 @@
 // Rust's values.
 #![tactic(auto)]
 
-ghost use Rattle.std.specs.Prelude.{◌≡◌, ◌-◌};
+ghost use Rattle.std.specs.Prelude.{◌≡◌, ◌-◌, MatchResult};
+ghost use Rattle.time.specs.Options.{when_of};
+ghost use Rattle.settings.specs.Checks.{check_place};
 ghost use Rattle.time.specs.Time.{backoff_of};
-ghost use Rattle.params.specs.Params.{value_or, last_offset, endless, probing, confirm_of, span_of, rung_of, gap_of, msg1_span, budget_of, first_made, fin_made, probes_made, revert_made, elicit_made, delayed_made, grace_of, with_hold_of, lengths_of, schedules_of, new_of};
+ghost use Rattle.params.specs.Params.{last_offset, endless, probing, confirm_of, span_of, rung_of, gap_of, msg1_span, budget_of, first_made, fin_made, probes_made, revert_made, elicit_made, delayed_made, grace_of, with_hold_of, params_of, new_of};
 
 use ladder::{Made, Schedule};
-use settings::Config;
-use time::When;
+use settings::{Check, Config};
 
 // Resends that were asked for and are in no schedule, since they fall at or after their deadline
 // or find no room.
@@ -29,7 +30,7 @@ pub struct Params {
     // The confirmation window: the handshake timeout plus one check.
     pub confirm: u64,
     // The confirmation window plus one drain window, absent where it passes 2^64 - 1.
-    pub span: When,
+    pub span: Option<u64>,
     // The cap on the probe grace.
     pub grace: u64,
     // The cap on the first rung of a rekey setup.
@@ -53,48 +54,11 @@ pub struct Params {
     pub inert: Inert,
 }
 
-// The place of the first check that refuses the settings, 0 where they are accepted, and the
-// derived values, which mean something only then.
-#[derive(Clone, Copy)]
-pub struct NewParams {
-    pub place: u8,
-    pub params: Params,
-}
-
-// The derived durations.
-#[derive(Clone, Copy)]
-pub struct Lengths {
-    pub confirm: u64,
-    pub span: When,
-    pub grace: u64,
-    pub rung: u64,
-    pub gap: u64,
-    pub budget: u64,
-}
-
-// The derived schedules.
-#[derive(Clone, Copy)]
-pub struct Schedules {
-    pub first: Made,
-    pub fin: Made,
-    pub probes: Made,
-    pub revert: Made,
-    pub elicit: Made,
-    pub delayed: Made,
-}
-
-// A number that may be absent, or 0.
-fn or_zero(w: When) -> u64
-    ensures { result ≡ value_or 0 w }
-{
-    if w.some { w.at } else { 0 }
-}
-
 // Doubling resends from one second on, with no end.
 fn unending(count: u8) -> Made
     ensures { result ≡ endless count }
 {
-    Schedule::doubling(1000, count, When { some: false, at: 0 })
+    Schedule::doubling(1000, count, None)
 }
 
 // Doubling resends from one second on, with keepalives, before `end`.
@@ -105,77 +69,79 @@ fn probing_for(cfg: Config, count: u8, end: u64) -> Made
 }
 
 // The offset of a schedule's last send, 0 where none sends.
+#[tactic(auto, using(time::proofs::Std::unwrap_when), unfolding(crate::specs::Params::last_offset))]
 fn last_offset(sched: Schedule) -> u64
     ensures { result ≡ last_offset sched }
 {
-    or_zero(sched.last_send())
+    sched.last_send().unwrap_or(0)
 }
 
 // The confirmation window: the handshake timeout plus one check.
+#[tactic(auto, using(time::proofs::Std::add_stops), unfolding(crate::specs::Params::confirm_of))]
 pub fn confirm(cfg: Config) -> u64
     ensures { result ≡ confirm_of cfg }
 {
-    time::sat_add(cfg.handshake, cfg.check)
+    cfg.handshake.saturating_add(cfg.check)
 }
 
 // The confirmation window plus one drain window. It is absent where it passes 2^64 - 1: an
 // instant moved by it is then unchanged, which a saturated sum would not give.
-pub fn span(cfg: Config) -> When
-    ensures { result ≡ span_of cfg }
+#[tactic(auto, using(time::proofs::Std::sum_checked), unfolding(crate::specs::Params::span_of))]
+pub fn span(cfg: Config) -> Option<u64>
+    ensures { when_of result ≡ span_of cfg }
 {
-    time::sum(confirm(cfg), cfg.drain)
+    confirm(cfg).checked_add(cfg.drain)
 }
 
 // The cap on the first rung of a rekey setup: a third of the handshake less one check, in whole
 // seconds.
+#[tactic(auto, unfolding(crate::specs::Params::rung_of))]
 pub fn rung(cfg: Config) -> u64
     ensures { result ≡ rung_of cfg }
 {
-    time::since(cfg.handshake, cfg.check) / 1000 / 3 * 1000
+    cfg.handshake.saturating_sub(cfg.check) / 1000 / 3 * 1000
 }
 
 // The longest gap between frames: half of what the drain window has above 2 seconds.
+#[tactic(auto, unfolding(crate::specs::Params::gap_of))]
 pub fn gap(cfg: Config) -> u64
     ensures { result ≡ gap_of cfg }
 {
-    time::since(cfg.drain, 2000) / 2
+    cfg.drain.saturating_sub(2000) / 2
 }
 
 // The offset of the last resend of a first message, whether or not it falls inside the budget.
+#[tactic(auto, unfolding(crate::specs::Params::msg1_span))]
 pub fn msg1_span(resends: u8) -> u64
     ensures { result ≡ msg1_span resends }
 {
-    let sched = unending(resends).sched;
-    last_offset(sched)
+    last_offset(unending(resends).sched)
 }
 
 // The deadline of a first message's attempt: the last resend plus one check, at most the
 // handshake timeout.
+#[tactic(auto, using(time::proofs::Std::add_capped), unfolding(crate::specs::Params::budget_of))]
 pub fn budget(cfg: Config) -> u64
     ensures { result ≡ budget_of cfg }
 {
-    time::min(
-        time::sat_add(msg1_span(cfg.resends), cfg.check),
-        cfg.handshake,
-    )
+    msg1_span(cfg.resends)
+        .saturating_add(cfg.check)
+        .min(cfg.handshake)
 }
 
+// The six schedules have a function each, since a caller wants one of them; `unending` and `probing_for` make all but the
+// first.
+
 // Resends of a first message, inside its budget.
+#[tactic(auto, unfolding(crate::specs::Params::first_made))]
 pub fn first(cfg: Config) -> Made
     ensures { result ≡ first_made cfg }
 {
-    let end = budget(cfg);
-    Schedule::doubling(
-        1000,
-        cfg.resends,
-        When {
-            some: true,
-            at: end,
-        },
-    )
+    Schedule::doubling(1000, cfg.resends, Some(budget(cfg)))
 }
 
 // Resends of a retained final message.
+#[tactic(auto, unfolding(crate::specs::Params::fin_made))]
 pub fn fin(cfg: Config) -> Made
     ensures { result ≡ fin_made cfg }
 {
@@ -183,6 +149,7 @@ pub fn fin(cfg: Config) -> Made
 }
 
 // Probes of a completed rekey, inside the confirmation window.
+#[tactic(auto, unfolding(crate::specs::Params::probes_made))]
 pub fn probes(cfg: Config) -> Made
     ensures { result ≡ probes_made cfg }
 {
@@ -190,6 +157,7 @@ pub fn probes(cfg: Config) -> Made
 }
 
 // Probes after a revert.
+#[tactic(auto, unfolding(crate::specs::Params::revert_made))]
 pub fn revert(cfg: Config) -> Made
     ensures { result ≡ revert_made cfg }
 {
@@ -197,6 +165,7 @@ pub fn revert(cfg: Config) -> Made
 }
 
 // Repeats of a prompt after a cutover.
+#[tactic(auto, unfolding(crate::specs::Params::elicit_made))]
 pub fn elicit(cfg: Config) -> Made
     ensures { result ≡ elicit_made cfg }
 {
@@ -204,6 +173,7 @@ pub fn elicit(cfg: Config) -> Made
 }
 
 // Resends of a delayed cutover's final message.
+#[tactic(auto, unfolding(crate::specs::Params::delayed_made))]
 pub fn delayed(cfg: Config) -> Made
     ensures { result ≡ delayed_made cfg }
 {
@@ -211,25 +181,25 @@ pub fn delayed(cfg: Config) -> Made
 }
 
 // The cap on the probe grace: half of what the confirmation window has after the last probe.
+#[tactic(auto, unfolding(crate::specs::Params::grace_of))]
 pub fn grace(cfg: Config) -> u64
     ensures { result ≡ grace_of cfg }
 {
-    let sched = probes(cfg).sched;
-    time::since(confirm(cfg), last_offset(sched)) / 2
+    let last = last_offset(probes(cfg).sched);
+    confirm(cfg).saturating_sub(last) / 2
 }
 
 // The settings with the hold that a link's responder needs: the longest of the drain's ceiling,
 // the time in which a peer that lost the answer tries again, and `silence`, the longest that a
 // kept link goes unheard.
+#[tactic(auto, using(crate::proofs::Sums::hold_words), unfolding(crate::specs::Params::with_hold_of))]
 pub fn with_hold(cfg: Config, silence: u64) -> Config
     ensures { result ≡ with_hold_of cfg silence }
 {
-    let sent = time::sat_add(msg1_span(cfg.resends), cfg.handshake);
-    let retry = time::sat_add(sent, cfg.dampening);
-    let hold = time::max(time::max(cfg.retention, retry), silence);
-    let mut held = cfg;
-    held.hold = hold;
-    held
+    let sent = msg1_span(cfg.resends).saturating_add(cfg.handshake);
+    let retry = sent.saturating_add(cfg.dampening);
+    let hold = cfg.retention.max(retry).max(silence);
+    Config { hold, ..cfg }
 }
 
 // The backoff after `n` abandoned attempts, before its random term: one check doubled for each
@@ -237,88 +207,44 @@ pub fn with_hold(cfg: Config, silence: u64) -> Config
 pub fn backoff(cfg: Config, n: u8) -> u64
     ensures { result ≡ backoff_of (n - 1) cfg.check cfg.hold }
 {
-    let exponent = time::since(n as u64, 1) as u32;
-    time::backoff(exponent, cfg.check, cfg.hold)
-}
-
-// Every derived duration.
-fn measured(cfg: Config) -> Lengths
-    ensures { result ≡ lengths_of cfg }
-{
-    let c = confirm(cfg);
-    let s = span(cfg);
-    let g = grace(cfg);
-    let r = rung(cfg);
-    let a = gap(cfg);
-    let b = budget(cfg);
-    Lengths {
-        confirm: c,
-        span: s,
-        grace: g,
-        rung: r,
-        gap: a,
-        budget: b,
-    }
-}
-
-// Every derived schedule.
-fn scheduled(cfg: Config) -> Schedules
-    ensures { result ≡ schedules_of cfg }
-{
-    let a = first(cfg);
-    let b = fin(cfg);
-    let c = probes(cfg);
-    let d = revert(cfg);
-    let e = elicit(cfg);
-    let f = delayed(cfg);
-    Schedules {
-        first: a,
-        fin: b,
-        probes: c,
-        revert: d,
-        elicit: e,
-        delayed: f,
-    }
+    time::backoff(n.saturating_sub(1) as u32, cfg.check, cfg.hold)
 }
 
 impl Params {
-    // The settings' verdict and every derived value.
-    pub fn new(cfg: Config) -> NewParams
-        ensures { result ≡ new_of cfg }
+    // Every value derived from the settings, whether or not they are accepted.
+    #[tactic(auto, using(time::proofs::Std::got_when), unfolding(crate::specs::Params::params_of))]
+    pub fn derived(cfg: Config) -> Params
+        ensures { result ≡ params_of cfg }
     {
-        let place = settings::place(cfg);
-        let l = measured(cfg);
-        let s = scheduled(cfg);
-        let span = l.span;
-        let a = s.first.sched;
-        let b = s.fin.sched;
-        let c = s.probes.sched;
-        let d = s.revert.sched;
-        let e = s.elicit.sched;
-        let f = s.delayed.sched;
-        let inert = Inert {
-            first: s.first.dropped,
-            probes: s.probes.dropped,
-        };
-        let params = Params {
-            cfg: cfg,
-            confirm: l.confirm,
-            span: span,
-            grace: l.grace,
-            rung: l.rung,
-            gap: l.gap,
-            budget: l.budget,
-            first: a,
-            fin: b,
-            probes: c,
-            revert: d,
-            elicit: e,
-            delayed: f,
-            inert: inert,
-        };
-        NewParams {
-            place: place,
-            params: params,
+        let first = first(cfg);
+        let probes = probes(cfg);
+        Params {
+            cfg,
+            confirm: confirm(cfg),
+            span: span(cfg),
+            grace: grace(cfg),
+            rung: rung(cfg),
+            gap: gap(cfg),
+            budget: budget(cfg),
+            first: first.sched,
+            fin: fin(cfg).sched,
+            probes: probes.sched,
+            revert: revert(cfg).sched,
+            elicit: elicit(cfg).sched,
+            delayed: delayed(cfg).sched,
+            inert: Inert {
+                first: first.dropped,
+                probes: probes.dropped,
+            },
         }
+    }
+
+    // The values of settings that every check accepts, or the first check that refuses them.
+    #[tactic(auto, unfolding(crate::specs::Params::new_of))]
+    pub fn new(cfg: Config) -> Result<Params, Check>
+        ensures { MatchResult result (λ p. record { place = 0; params = p } ≡ new_of cfg) (λ c. check_place c ≡ (new_of cfg).place) }
+    {
+        settings::accept(cfg)?;
+        Ok(Params::derived(cfg))
     }
 }

@@ -1,5 +1,5 @@
 -- What the poll's code promises, on its two ways out: the answer with the words of the log.
-use Rattle.std.specs.Prelude.{ℕ, ◌≤◌, Bool, ◌≡◌, List, ℤ, length}
+use Rattle.std.specs.Prelude.{ℕ, ◌≤◌, Bool, ◌≡◌, List, ℤ, length, Err}
 use Rattle.std.proofs.Math.Path.{refl, subst}
 use Rattle.std.proofs.Common.{◌∙◌, ap, arith}
 use Rattle.settings.specs.declared.Config.{Config}
@@ -7,67 +7,70 @@ use Rattle.state.specs.declared.State.{State}
 use Rattle.state.specs.declared.Profile.{Profile}
 use Rattle.state.specs.declared.Given.{Given}
 use Rattle.events.specs.Log.{at, logged}
-use Rattle.refusal.specs.declared.Refused.{Refused}
-use Rattle.refusal.specs.Refusal.{before_poll}
+use Rattle.events.specs.declared.Log.{Log}
+use Rattle.refusal.specs.declared.Refusal.{Refusal}
+use Rattle.refusal.specs.Refused.{refused_of}
+use Rattle.refusal.specs.Refusal.{accepted, before_poll}
 use Rattle.answer.specs.declared.Answer.{Answer}
 use Rattle.answer.specs.Written.{Written}
 use Rattle.answer.proofs.Laws.{written}
 use Rattle.answer.specs.Answers.{Answers, back_with, taken_with}
-use Rattle.answer.proofs.Answers.{answers_back, answers-on}
+use Rattle.answer.proofs.Answers.{answers_refused, answers_accepted}
 use Rattle.poll_loop.specs.Passes.{Ended, three_passes, Leaves}
 use Rattle.poll_close.specs.Closing.{unsealed, closing}
-use Rattle.poll_close.specs.Logs.{closed_log, unsealed-most, closed-told}
+use Rattle.poll_close.specs.Logs.{Becomes, closed_log, unsealed-most, closed-told}
 use Rattle.poll.specs.Poll.{given_to, settled, accepted_poll, poll_of}
 use Rattle.law_poll.specs.Most.{passes-most}
 use Rattle.law_poll.specs.After.{closing-most}
 
-module _
-    (s : State) (cfg : Config) (p : Profile) (now : ℕ) (workers : Bool) (spread : ℤ) (extra : ℕ)
-    (z : ℤ) (y : z ≡ spread) (back : Refused) (b₀ : back ≡ before_poll s cfg p z extra) (a : Answer)
-  where
-    -- z is the spread as the callees were given it
-    b : back ≡ before_poll s cfg p spread extra
-    b = b₀ ∙ ap (λ x. before_poll s cfg p x extra) y
+module _ (s : State) (cfg : Config) (p : Profile) (now : ℕ) (workers : Bool) (spread : ℤ) (extra : ℕ) (a : Answer) where
+  abbrev g : Given
+  g = given_to cfg p now workers extra
 
-    abbrev g : Given
-    g = given_to cfg p now workers extra
+  -- a poll that is sent back
+  pub poll-back :
+      (e : Refusal) → refused_of (Err e) ≡ before_poll s cfg p spread extra → a ≡ back_with (refused_of (Err e)) s
+      → (ws : List ℕ) → Answers (poll_of s cfg p now workers spread extra) a ws ws
+  unfolding poll_of
+  poll-back e b h ws = answers_refused (before_poll s cfg p spread extra) s (accepted_poll s g spread) a e b h ws
 
-    -- a poll that is sent back
-    pub poll-back : (back.number ≡ 0 → ⊥) → a ≡ back_with back s → (ws : List ℕ) → Answers (poll_of s cfg p now workers spread extra) a ws ws
-    unfolding poll_of
-    poll-back n e ws = answers_back (before_poll s cfg p spread extra) s (accepted_poll s g spread) back b a n e ws
+  -- one that is accepted
+  module _ (left : State) (ended : Bool) (count : ℕ) (l₀ l l' : Log) (ws ws' : List ℕ) (first : l₀.words.now ≡ ws) (last : l'.words.now ≡ ws') (long : length ws ≡ 768) where
+    pub poll-on :
+        accepted ≡ before_poll s cfg p spread extra → l₀.len ≡ 0
+        → Leaves (three_passes s g spread) l₀ left ended count l
+        → Becomes (closed_log left g ended) l l'
+        → a ≡ taken_with left l'.len count
+        → Answers (poll_of s cfg p now workers spread extra) a ws ws'
+    unfolding poll_of accepted_poll
+    poll-on b z h c e =
+        subst (λ v. Answers (poll_of s cfg p now workers spread extra) a ws v) last
+        (subst (λ v. Answers (poll_of s cfg p now workers spread extra) a v l'.words.now) first
+        (answers_accepted (before_poll s cfg p spread extra) s (settled g t) a b left l'.len count e refl refl h.state h.counts l₀.words.now l'.words.now all))
+      where
+        t : Ended
+        t = three_passes s g spread
 
-    -- one that is accepted
-    module _ (zero : back.number ≡ 0) (left : State) (len : ℕ) (ended : Bool) (count : ℕ) (ws ws' ws'' : List ℕ) (n : ℕ) (wide : length ws ≡ 768) where
-      pub poll-on :
-          a ≡ taken_with left n count
-          → Leaves (three_passes s g z) ws left len ended count ws'
-          → at n ws'' ≡ closed_log left g ended (at len ws')
-          → Answers (poll_of s cfg p now workers spread extra) a ws ws''
-      unfolding poll_of accepted_poll
-      poll-on e l₀ c =
-          answers-on (before_poll s cfg p spread extra) s (settled g t) back b a zero left n count e refl refl l.state l.counts ws ws'' all
-        where
-          l : Leaves (three_passes s g spread) ws left len ended count ws'
-          l = subst (λ x. Leaves (three_passes s g x) ws left len ended count ws') y l₀
+        v : List ℕ
+        v = l₀.words.now
 
-          t : Ended
-          t = three_passes s g spread
+        wide : length v ≡ 768
+        wide = ap length first ∙ long
 
-          room : length t.work.out ≤ 88
-          room = omega (arith, passes-most s g spread)
+        room : length t.work.out ≤ 88
+        room = omega (arith, passes-most s g spread)
 
-          closed : at n ws'' ≡ closed_log t.work.state g t.work.ended (logged (at 0 ws) t.work.out)
-          closed =
-              c
-              ∙ (ap (λ x. closed_log x g ended (at len ws')) l.state
-              ∙ (ap (λ x. closed_log t.work.state g x (at len ws')) l.ends
-              ∙ ap (closed_log t.work.state g t.work.ended) l.log))
+        closed : at l'.len l'.words.now ≡ closed_log t.work.state g t.work.ended (logged (at 0 v) t.work.out)
+        closed =
+            c.log
+            ∙ (ap (λ x. closed_log x g ended (at l.len l.words.now)) h.state
+            ∙ (ap (λ x. closed_log t.work.state g x (at l.len l.words.now)) h.ends
+            ∙ ap (closed_log t.work.state g t.work.ended) (h.tells.appends ∙ ap (λ n. logged (at n v) t.work.out) z)))
 
-          all : Written 0 (unsealed t.work.state g t.work.ended t.work.out) (closing t.work.state g t.work.ended t.work.out) n ws ws''
-          all =
-              written 0 (unsealed t.work.state g t.work.ended t.work.out) (closing t.work.state g t.work.ended t.work.out) n ws ws'' wide
-              (omega (arith, room, unsealed-most t.work.state g t.work.ended t.work.out))
-              (omega (arith, room, closing-most t.work.state g t.work.ended t.work.out))
-              (closed ∙ closed-told ws wide t.work.state g t.work.ended t.work.out room)
-              (λ f. absurd (f refl))
+        all : Written 0 (unsealed t.work.state g t.work.ended t.work.out) (closing t.work.state g t.work.ended t.work.out) l'.len v l'.words.now
+        all =
+            written 0 (unsealed t.work.state g t.work.ended t.work.out) (closing t.work.state g t.work.ended t.work.out) l'.len v l'.words.now wide
+            (omega (arith, room, unsealed-most t.work.state g t.work.ended t.work.out))
+            (omega (arith, room, closing-most t.work.state g t.work.ended t.work.out))
+            (closed ∙ closed-told v wide t.work.state g t.work.ended t.work.out room)
+            (λ f. absurd (f refl))

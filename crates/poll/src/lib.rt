@@ -1,5 +1,5 @@
 // The poll (machine.rs, `poll`): refusals 1 to 7, the passes, and what follows them.
-#![tactic(auto)]
+#![tactic(auto, using(crate::proofs::Exact::poll_exact, crate::proofs::Acts::poll_acts))]
 
 ghost use Rattle.poll.specs.Poll.{poll_of};
 ghost use Rattle.answer.specs.Answers.{Answers};
@@ -7,6 +7,7 @@ ghost use Rattle.poll.specs.Exact.{PollExact};
 ghost use Rattle.poll.specs.Acts.{PollActs};
 
 use answer::Answer;
+use events::Log;
 use settings::Config;
 use state::{Given, Profile, State};
 
@@ -25,20 +26,18 @@ pub fn poll(
     ensures exact { PollExact s cfg p spread extra (poll_of s cfg p time workers spread extra) }
     ensures acts { PollActs s cfg p time workers (poll_of s cfg p time workers spread extra) }
 {
-    let _n = lengths::words(log);
-    let back = refusal::before_poll(s, cfg, p, spread, extra);
-    if back.number != 0 {
+    if let Err(back) = refusal::before_poll(&s, cfg, p, spread, extra) {
         return answer::sent_back(back, s);
     }
     let g = Given {
-        cfg: cfg,
+        cfg,
         profile: p,
         now: time,
-        workers: workers,
-        extra: extra,
+        workers,
+        extra,
     };
-    let t = poll_loop::passes(s, g, spread, log);
-    let left = t.state;
-    let n = poll_close::close(left, g, t.ended, log, t.len);
-    answer::finish(left, n, t.count)
+    let mut told = Log::new(log);
+    let t = poll_loop::passes(s, g, spread, &mut told);
+    poll_close::close(&t.state, g, t.ended, &mut told);
+    answer::finish(t.state, told.len(), t.count)
 }

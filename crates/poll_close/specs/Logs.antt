@@ -12,6 +12,7 @@ use Rattle.state.specs.declared.State.{State}
 use Rattle.state.specs.declared.Given.{Given}
 use Rattle.events.specs.Events.{Event, Teardown, Start}
 use Rattle.events.specs.Log.{Log, at, logged}
+use Rattle.events.specs.declared.Log.{Log as Told}
 use Rattle.events.proofs.Laws.{logged-append}
 use Rattle.events.specs.Queries.{any_of, offers, offered_in}
 use Rattle.events.proofs.Laws.{offered-answer}
@@ -23,6 +24,11 @@ use Rattle.wake.specs.Wake.{exhausted}
 use Rattle.retire.specs.Retire.{delegate_out}
 use Rattle.retire.proofs.Most.{only-most, delegate_most}
 use Rattle.poll_close.specs.Closing.{idle_now, tests_out, ends_now, start_out, offer_out, offering, going, waits_for, sealing, unsealed, closing}
+
+-- what a function promises that changes a log: the log as a whole becomes what f makes of it
+pub record Becomes (f : Log → Log) (l l' : Told) : Type 0 where
+  pub log : at l'.len l'.words.now ≡ f (at l.len l.words.now)
+  pub same_reference : l'.words.ghost_name ≡ l.words.ghost_name
 
 -- the offer of an epoch, where the log holds none
 unfoldable pub offer_log : Bool → Epoch → Bool → Log → Log

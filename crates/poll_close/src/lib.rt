@@ -2,124 +2,96 @@
 // tests, the start, the offers, and the prompts that can be sealed no more. The state stays.
 #![tactic(auto)]
 
-ghost use Rattle.std.specs.Prelude.{◌≡◌, ◌||◌};
-ghost use Rattle.events.specs.Log.{Appends, at};
-ghost use Rattle.events.specs.Events.{Teardown};
+ghost use Rattle.std.specs.Prelude.{◌≡◌};
+ghost use Rattle.numbers.specs.Reason.{teardown_no};
+ghost use Rattle.events.specs.Events.{Teardown as TeardownTold};
+ghost use Rattle.events.specs.Told.{Tells};
 ghost use Rattle.retire.specs.Retire.{only};
-ghost use Rattle.poll_close.specs.Closing.{idle_now, tests_out, ends_now, start_out, waits_for};
-ghost use Rattle.poll_close.specs.Logs.{offer_log, go_log, closed_log};
+ghost use Rattle.poll_close.specs.Closing.{tests_out, ends_now, start_out, waits_for};
+ghost use Rattle.poll_close.specs.Logs.{Becomes, offer_log, go_log, closed_log};
 
+use cycle::Cycle;
 use epoch::Epoch;
+use events::Log;
+use numbers::cycle::Stage;
+use numbers::teardown::Teardown;
+use numbers::wait::Wait;
 use settings::Config;
 use state::{Given, State};
 
-// How long the log is after the teardown tests, and whether the link ended.
-#[derive(Clone, Copy)]
-pub struct Tested {
-    pub len: usize,
-    pub ended: bool,
-}
-
 // A teardown is told where its test holds.
-fn torn(stands: bool, why: u64, log: &mut [u64; 768], len: usize) -> usize
-    ensures { Appends (only stands (Teardown why)) len log.old result log.new }
+fn torn(stands: bool, why: Teardown, log: &mut Log)
+    ensures { Tells (only stands (TeardownTold (teardown_no why))) log.old log.new }
 {
     if stands {
-        events::teardown(log, len, why)
-    } else {
-        len
+        log.teardown(why);
     }
 }
 
-fn either(a: bool, b: bool) -> bool
-    ensures { result ≡ (a || b) }
+// The teardown tests; whether a pass or a test ended the link. OpeningIdle is not tested where a pass did.
+#[tactic(auto, using(retire::proofs::Told::tells_then), unfolding(crate::specs::Closing::tests_out, crate::specs::Closing::ends_now, crate::specs::Closing::idle_now))]
+fn tests(s: &State, cfg: &Config, ended: bool, log: &mut Log) -> bool
+    ensures told { Tells (tests_out s.now cfg.now ended) log.old log.new }
+    ensures ends { result ≡ ends_now s.now cfg.now ended }
 {
-    if a { true } else { b }
-}
-
-// OpeningIdle is not tested where a pass ended the link.
-fn idle_now(s: State, ended: bool) -> bool
-    ensures { result ≡ idle_now s ended }
-{
-    if ended { false } else { wake::opening_idle(s) }
-}
-
-// The teardown tests.
-fn tests(s: State, cfg: Config, ended: bool, log: &mut [u64; 768], len: usize) -> Tested
-    ensures { (Appends (tests_out s cfg ended) len log.old result.len log.new) × (result.ended ≡ ends_now s cfg ended) }
-{
-    let idle = idle_now(s, ended);
+    let idle = !ended && wake::opening_idle(s);
     let spent = wake::exhausted(s, cfg);
-    let a = torn(idle, numbers::teardown::OPENING_IDLE, log, len);
-    let b = torn(spent, numbers::teardown::COUNTER_EXHAUSTED, log, a);
-    Tested {
-        len: b,
-        ended: either(either(ended, idle), spent),
-    }
+    torn(idle, Teardown::OpeningIdle, log);
+    torn(spent, Teardown::CounterExhausted, log);
+    ended || idle || spent
 }
 
 // A start is told while one is called for: the caller answers it with a start reply.
-fn start(s: State, g: Given, log: &mut [u64; 768], len: usize) -> usize
-    ensures { Appends (start_out s g) len log.old result log.new }
+#[tactic(auto, unfolding(crate::specs::Closing::start_out, start::specs::Start::called_for))]
+fn start(s: &State, g: Given, log: &mut Log)
+    ensures { Tells (start_out s.now g) log.old log.new }
 {
-    if start::called_for(s, g.cfg, g.profile, g.now) {
-        let k = start::kind(s, g.cfg, g.profile, g.now);
-        return events::start(log, len, k.at);
+    if start::called_for(s, &g.cfg, g.profile, g.now) {
+        if let Some(kind) = start::kind(s, &g.cfg, g.profile, g.now) {
+            log.start(kind);
+        }
     }
-    len
 }
 
-// An epoch is offered to a worker unless an earlier event of this answer did so.
-fn offer(some: bool, e: Epoch, workers: bool, log: &mut [u64; 768], len: usize) -> usize
-    ensures { at result log.new ≡ offer_log some e workers (at len log.old) }
+// An epoch is offered to a worker unless an earlier event of this answer did so. Its flag stands beside it, as
+// in the state that C lays out.
+#[tactic(auto, unfolding(crate::specs::Logs::offer_log))]
+fn offer(some: bool, e: Epoch, workers: bool, log: &mut Log)
+    ensures { Becomes (offer_log some e workers) log.old log.new }
 {
-    if some {
-        if events::offered(log, len, e.tag) {
-            return len;
-        }
-        return retire::delegate(e, workers, log, len);
+    if some && !log.offered(e.tag) {
+        retire::delegate(e, workers, log);
     }
-    len
 }
 
 // The start and the offers, unless the link ended.
-fn go(s: State, g: Given, ended: bool, log: &mut [u64; 768], len: usize) -> usize
-    ensures { at result log.new ≡ go_log s g ended (at len log.old) }
+#[tactic(auto, unfolding(crate::specs::Logs::go_log))]
+fn go(s: &State, g: Given, ended: bool, log: &mut Log)
+    ensures { Becomes (go_log s.now g ended) log.old log.new }
 {
     if ended {
-        return len;
+        return;
     }
-    let a = start(s, g, log, len);
-    let cur = s.cur.ep;
-    let b = offer(s.cur.some, cur, g.workers, log, a);
-    let old = s.drain.ep;
-    offer(s.drain.some, old, g.workers, log, b)
+    start(s, g, log);
+    offer(s.cur.some, s.cur.ep, g.workers, log);
+    offer(s.drain.some, s.drain.ep, g.workers, log);
 }
 
 // Whether the pending epoch is an own one that waits for evidence.
-fn waits_for(kind: u8, wait: u8) -> bool
-    ensures { result ≡ waits_for kind wait }
+#[tactic(auto, unfolding(crate::specs::Closing::waits_for))]
+fn waits_for(c: &Cycle) -> bool
+    ensures { result ≡ waits_for c.now.kind c.now.pendi.wait }
 {
-    if kind == numbers::cycle::PENDI {
-        wait == numbers::wait::EVIDENCE
-    } else {
-        false
-    }
+    c.stage() == Stage::PendI && c.pendi.waits() == Wait::Evidence
 }
 
-// All that follows the passes; how long the log is.
-pub fn close(s: State, g: Given, ended: bool, log: &mut [u64; 768], len: usize) -> usize
-    ensures { at result log.new ≡ closed_log s g ended (at len log.old) }
+// All that follows the passes.
+pub fn close(s: &State, g: Given, ended: bool, log: &mut Log)
+    ensures { Becomes (closed_log s.now g ended) log.old log.new }
 {
-    let t = tests(s, g.cfg, ended, log, len);
-    let n = go(s, g, t.ended, log, t.len);
-    let waits = waits_for(s.cycle.kind, s.cycle.pendi.wait);
-    events::withdraw(
-        log,
-        n,
-        s.cur.some,
-        s.cur.ep.tag,
-        waits,
-        s.cycle.pendi.ep.tag,
-    )
+    let ends = tests(s, &g.cfg, ended, log);
+    go(s, g, ends, log);
+    let cur = s.cur.some.then_some(s.cur.ep.tag);
+    let pend = waits_for(&s.cycle).then_some(s.cycle.pendi.ep.tag);
+    log.withdraw(cur, pend);
 }

@@ -12,7 +12,8 @@ use Rattle.state.specs.declared.State.{State}
 use Rattle.state.specs.declared.Given.{Given}
 use Rattle.state.specs.Parts.{put_mem, put_cur, put_cycle, put_cands}
 use Rattle.events.specs.Events.{Event, Reject, Abandoned}
-use Rattle.events.specs.Log.{Appends}
+use Rattle.events.specs.declared.Log.{Log}
+use Rattle.events.specs.Told.{Tells}
 use Rattle.retire.specs.Retire.{only, retire_out}
 use Rattle.time.specs.Pick.{and}
 use Rattle.cycle.specs.Held.{is_own}
@@ -26,10 +27,10 @@ pub record Step : Type 0 where
   pub out : List Event
   pub ends : Bool
 
--- what a function on the whole state promises that takes such a step: its state, its events behind the
--- `len` that were in the log, and whether the link ends
-abbrev pub Did : Step → ℕ → List ℕ → Ran → List ℕ → Type 0
-Did t len ws r ws' = (r.state ≡ t.state) × (Appends t.out len ws r.len ws' × (r.ended ≡ t.ends))
+-- what a function on the whole state promises that takes such a step: its state, its events behind those
+-- of the log, and whether the link ends
+abbrev pub Did : Step → Log → Ran → Log → Type 0
+Did t l r l' = (r.state ≡ t.state) × (Tells t.out l l' × (r.ended ≡ t.ends))
 
 abbrev pub stay : State → Step
 stay s = record { state = s; out = []; ends = false }

@@ -3,7 +3,7 @@
 use Rattle.std.specs.Prelude.{ℕ, ◌+◌, ◌-◌, ◌*◌, Bool, true, false, not, ◌≡◌, List, [], ◌∷◌, ◌++◌, leb, ltb, eqb}
 use Rattle.time.specs.Pick.{pick}
 use Rattle.time.specs.Time.{at, least, later_of, backoff_of}
-use Rattle.ladder.specs.declared.Took.{Took}
+use Rattle.ladder.specs.Took.{Took}
 use Rattle.ladder.specs.Ladder.{take_of}
 use Rattle.settings.specs.declared.Config.{Config}
 use Rattle.numbers.specs.Numbers.{kind_msg1, kind_setup, kind_msg3, abandon_unadopted, abandon_unanswered, teardown_opening_failed}
@@ -14,9 +14,9 @@ use Rattle.cycle.specs.Kind.{is_init, idled}
 use Rattle.cycle.specs.Put.{put_init, put_pend_i, moved_init, with_fin, with_probes}
 use Rattle.state.specs.declared.Memory.{Memory}
 use Rattle.events.specs.Events.{Event, Send, Prompt, Abandoned, Teardown, Ended}
-use Rattle.events.specs.Log.{Appends}
+use Rattle.events.specs.declared.Log.{Log}
+use Rattle.events.specs.Told.{Tells}
 use Rattle.retire.specs.Retire.{only, retire_out, abandon_out}
-use Rattle.poll_cycle.specs.declared.Cycled.{Cycled}
 use Rattle.time.specs.Pick.{and}
 use Rattle.cycle.specs.Held.{is_own, is_peers}
 
@@ -24,9 +24,9 @@ pub record CycleStep : Type 0 where
   pub cycle : Cycle
   pub out : List Event
 
--- what a row of the cycle promises: the cycle, and its events behind the `len` that were in the log
-abbrev pub DidCycle : CycleStep → ℕ → List ℕ → Cycled → List ℕ → Type 0
-DidCycle t len ws r ws' = (r.cycle ≡ t.cycle) × Appends t.out len ws r.len ws'
+-- what a row of the cycle promises: the cycle, and its events behind those of the log
+abbrev pub DidCycle : CycleStep → Log → Cycle → Log → Type 0
+DidCycle t l c l' = (c ≡ t.cycle) × Tells t.out l l'
 
 -- with whether the link ends
 pub record FailStep : Type 0 where

@@ -4,14 +4,15 @@
 use Rattle.std.specs.Prelude.{ℕ, Bool, false, not, ◌≡◌, List, [], ◌∷◌, ◌++◌}
 use Rattle.time.specs.Pick.{pick}
 use Rattle.time.specs.Time.{at}
-use Rattle.ladder.specs.declared.Took.{Took}
+use Rattle.ladder.specs.Took.{Took}
 use Rattle.ladder.specs.Ladder.{take_of}
 use Rattle.numbers.specs.Numbers.{kind_msg3, abandon_adoption_not_seen}
 use Rattle.epoch.specs.declared.Drain.{Drain}
 use Rattle.epoch.specs.declared.MayEpoch.{MayEpoch}
 use Rattle.epoch.specs.Put.{put_fin, put_elicit, moved_fin, put_ep}
 use Rattle.events.specs.Events.{Event, Send, Prompt, Abandoned}
-use Rattle.events.specs.Log.{Appends}
+use Rattle.events.specs.declared.Log.{Log}
+use Rattle.events.specs.Told.{Tells}
 use Rattle.retire.specs.Retire.{only, retire_out}
 use Rattle.poll_epoch.specs.declared.Kept.{Kept}
 use Rattle.time.specs.Pick.{and}
@@ -30,8 +31,8 @@ pub record CurStep : Type 0 where
   pub due : Bool
 
 -- what a row of the current epoch promises: the epoch, its events, and whether a repair falls due
-abbrev pub DidCur : CurStep → ℕ → List ℕ → Kept → List ℕ → Type 0
-DidCur t len ws r ws' = (r.cur ≡ t.cur) × (Appends t.out len ws r.len ws' × (r.due ≡ t.due))
+abbrev pub DidCur : CurStep → Log → Kept → Log → Type 0
+DidCur t l r l' = (r.cur ≡ t.cur) × (Tells t.out l l' × (r.due ≡ t.due))
 
 -- ---- Drain: the drained epoch is retired; without evidence that the peer moved, that is told
 

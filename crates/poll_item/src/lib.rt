@@ -2,205 +2,131 @@
 // of the state, and what it leaves is put in place.
 #![tactic(auto)]
 
-ghost use Rattle.std.specs.Prelude.{◌≡◌, Bool, not, ltb, eqb};
+ghost use Rattle.std.specs.Prelude.{◌≡◌, Bool};
 ghost use Rattle.time.specs.Pick.{pick};
+ghost use Rattle.numbers.specs.Cases.{kind_no};
+ghost use Rattle.state.specs.Parts.{put_mem, put_cur, put_drain, put_cycle};
+ghost use Rattle.grace.specs.Grace.{grace};
+ghost use Rattle.poll_cycle.specs.CycleRows.{DidCycle, probe_due, resend_due};
 ghost use Rattle.poll_cut.specs.Cut.{Did, due_mem};
-ghost use Rattle.poll_item.specs.Item.{low_step, high_step, other_step};
-ghost use Rattle.time.specs.Pick.{and as and_of};
-ghost use Rattle.state.specs.Parts.{put_mem, put_cur};
-ghost use Rattle.poll_item.specs.Item.{item_step};
+ghost use Rattle.poll_item.specs.Item.{holds, alone, item_step};
 
-use epoch::MayEpoch;
+use cycle::Cycle;
+use epoch::Drain;
+use events::Log;
+use items::Due;
+use numbers::item::Kind;
 use poll_cut::Ran;
+use poll_cycle::Failed;
+use poll_epoch::Kept;
 use state::{Given, State};
 
 // The hold-back: while opening, a larger node with a candidate.
-fn holds(cur: bool, smaller: bool, n: usize) -> bool
-    ensures { result ≡ and_of (not cur) (and_of (not smaller) (ltb 0 n)) }
+#[tactic(auto, unfolding(crate::specs::Item::holds))]
+fn holds(s: State, smaller: bool) -> bool
+    ensures { result ≡ holds s smaller }
 {
-    if cur {
-        false
-    } else {
-        if smaller { false } else { 0 < n }
-    }
+    !s.cur.some && !smaller && 0 < s.cands.len
 }
 
 // No current epoch and no candidate left.
-fn alone(cur: bool, n: usize) -> bool
-    ensures { result ≡ and_of (not cur) (eqb n 0) }
+#[tactic(auto, unfolding(crate::specs::Item::alone))]
+fn alone(s: State) -> bool
+    ensures { result ≡ alone s }
 {
-    if cur { false } else { n == 0 }
+    !s.cur.some && s.cands.len == 0
 }
 
-// An item of a kind before `FIN`: Drain, Unadopted, Held, Probe, Delayed.
-fn low(
-    s: State,
-    g: Given,
-    spread: i32,
-    kind: u64,
-    key: u64,
-    log: &mut [u64; 768],
-    len: usize,
-) -> Ran
-    ensures { Did (low_step s g spread kind key) len log.old result log.new }
+// What the row of the drained epoch leaves, put in place.
+fn on_drain(s: State, drain: Drain) -> Ran
+    ensures { (result.state ≡ put_drain s drain) × (result.ended ≡ Bool.false) }
 {
-    if kind == numbers::item::DRAIN {
-        let d = s.drain;
-        let t = poll_epoch::drain_due(d, key, log, len);
-        let d2 = t.drain;
-        let mut s2 = s;
-        s2.drain = d2;
-        return Ran {
-            state: s2,
-            len: t.len,
-            ended: false,
-        };
-    }
-    if kind == numbers::item::UNADOPTED {
-        let c = s.cycle;
-        let t = poll_cycle::unadopted_due(c, key, log, len);
-        let c2 = t.cycle;
-        let mut s2 = s;
-        s2.cycle = c2;
-        return Ran {
-            state: s2,
-            len: t.len,
-            ended: false,
-        };
-    }
-    if kind == numbers::item::HELD {
-        return poll_cut::held_due(s, g, spread, key, log, len);
-    }
-    if kind == numbers::item::PROBE {
-        let w = grace::grace(s.mem, g.cfg);
-        let c = s.cycle;
-        let t = poll_cycle::probe_due(c, s.cur.some, s.cur.ep.tag, w, key, g.now, log, len);
-        let c2 = t.cycle;
-        let mut s2 = s;
-        s2.cycle = c2;
-        return Ran {
-            state: s2,
-            len: t.len,
-            ended: false,
-        };
-    }
-    let c = s.cycle;
-    let t = poll_cycle::delayed_due(c, key, g.now, log, len);
-    let c2 = t.cycle;
-    let mut s2 = s;
-    s2.cycle = c2;
     Ran {
-        state: s2,
-        len: t.len,
+        state: State { drain, ..s },
+        ended: false,
+    }
+}
+
+// What a row of the cycle leaves, put in place.
+fn on_cycle(s: State, cycle: Cycle) -> Ran
+    ensures { (result.state ≡ put_cycle s cycle) × (result.ended ≡ Bool.false) }
+{
+    Ran {
+        state: State { cycle, ..s },
         ended: false,
     }
 }
 
 // What a row of the current epoch leaves, put in place.
-fn current(s: State, cur: MayEpoch, due: bool, len: usize) -> Ran
-    ensures { (result.state ≡ put_mem (put_cur s cur) (due_mem s.mem (pick due Bool.true s.mem.due))) × ((result.len ≡ len) × (result.ended ≡ Bool.false)) }
+fn on_cur(s: State, left: Kept) -> Ran
+    ensures { (result.state ≡ put_mem (put_cur s left.cur) (due_mem s.mem (pick left.due Bool.true s.mem.due))) × (result.ended ≡ Bool.false) }
 {
-    let d = time::either(due, s.mem.due);
-    let mut s2 = s;
-    s2.cur = cur;
-    s2.mem.due = d;
+    let mut state = s;
+    state.cur = left.cur;
+    state.mem.due = left.due || s.mem.due;
     Ran {
-        state: s2,
-        len: len,
+        state,
         ended: false,
     }
 }
 
-// An item of kind `FIN` or after it: Fin, Elicit, Confirm, DelayEnd, Resend, Expire.
-fn high(
-    s: State,
-    g: Given,
-    spread: i32,
-    kind: u64,
-    key: u64,
-    log: &mut [u64; 768],
-    len: usize,
-) -> Ran
-    ensures { Did (high_step s g spread kind key) len log.old result log.new }
+// What the own attempt's deadline leaves, put in place.
+fn on_fail(s: State, left: Failed) -> Ran
+    ensures { (result.state ≡ put_mem (put_cycle s left.cycle) left.mem) × (result.ended ≡ left.ends) }
 {
-    if kind == numbers::item::FIN {
-        let cur = s.cur;
-        let t = poll_epoch::fin_due(cur, key, g.now, log, len);
-        return current(s, t.cur, t.due, t.len);
-    }
-    if kind == numbers::item::ELICIT {
-        let cur = s.cur;
-        let t = poll_epoch::elicit_due(cur, key, g.now, log, len);
-        return current(s, t.cur, t.due, t.len);
-    }
-    if kind == numbers::item::CONFIRM {
-        return poll_cut::confirm_due(s, g, spread, key, log, len);
-    }
-    if kind == numbers::item::DELAY_END {
-        return poll_cut::delay_end(s, g, spread, key, log, len);
-    }
-    if kind == numbers::item::RESEND {
-        let h = holds(s.cur.some, g.profile.smaller, s.cands.len);
-        let c = s.cycle;
-        let t = poll_cycle::resend_due(c, h, g.cfg.young, g.profile.messages, g.now, log, len);
-        let c2 = t.cycle;
-        let mut s2 = s;
-        s2.cycle = c2;
-        return Ran {
-            state: s2,
-            len: t.len,
-            ended: false,
-        };
-    }
-    let a = alone(s.cur.some, s.cands.len);
-    let c = s.cycle;
-    let t = poll_cycle::expire_due(c, s.mem, g.cfg, a, g.now, g.extra, log, len);
-    let c2 = t.cycle;
-    let m2 = t.mem;
-    let mut s2 = s;
-    s2.cycle = c2;
-    s2.mem = m2;
     Ran {
-        state: s2,
-        len: t.len,
-        ended: t.ends,
+        state: State {
+            cycle: left.cycle,
+            mem: left.mem,
+            ..s
+        },
+        ended: left.ends,
     }
 }
 
-// Any item but a candidate: the two halves of the list, by order, so that neither function is long.
-pub fn other(
-    s: State,
-    g: Given,
-    spread: i32,
-    kind: u64,
-    key: u64,
-    log: &mut [u64; 768],
-    len: usize,
-) -> Ran
-    ensures { Did (other_step s g spread kind key) len log.old result log.new }
+// A probe of an own completed attempt, with the tag of the current epoch.
+#[tactic(auto, unfolding(poll_cycle::specs::CycleRows::probe_due))]
+fn probe(s: State, g: Given, tag: u64, log: &mut Log) -> Cycle
+    ensures { DidCycle (probe_due s.cycle s.cur.some s.cur.ep.tag (grace s.mem g.cfg) tag g.now) log.old result log.new }
 {
-    if kind < numbers::item::FIN {
-        low(s, g, spread, kind, key, log, len)
-    } else {
-        high(s, g, spread, kind, key, log, len)
-    }
+    let current = s.cur.some.then_some(s.cur.ep.tag);
+    let wait = grace::grace(s.mem, g.cfg);
+    poll_cycle::probe_due(s.cycle, current, wait, tag, g.now, log)
+}
+
+// A resend of the own attempt.
+fn resend(s: State, g: Given, log: &mut Log) -> Cycle
+    ensures { DidCycle (resend_due s.cycle (holds s g.profile.smaller) g.cfg.young g.profile.messages g.now) log.old result log.new }
+{
+    let held = holds(s, g.profile.smaller);
+    poll_cycle::resend_due(s.cycle, held, g.cfg.young, g.profile.messages, g.now, log)
 }
 
 // One item.
-pub fn step(
-    s: State,
-    g: Given,
-    spread: i32,
-    kind: u64,
-    key: u64,
-    log: &mut [u64; 768],
-    len: usize,
-) -> Ran
-    ensures { Did (item_step s g spread kind key) len log.old result log.new }
+#[tactic(auto, unfolding(crate::specs::Item::item_step, crate::specs::Item::other_step, crate::specs::Item::low_step, crate::specs::Item::high_step))]
+pub fn step(s: State, g: Given, spread: i32, due: Due, log: &mut Log) -> Ran
+    ensures { Did (item_step s g spread (kind_no due.kind) due.key) log.old result log.new }
 {
-    if kind == numbers::item::CANDIDATE {
-        poll_cut::candidate_due(s, key, g.now, log, len)
-    } else {
-        other(s, g, spread, kind, key, log, len)
+    let c = s.cycle;
+    let key = due.key;
+    match due.kind {
+        Kind::Drain => on_drain(s, poll_epoch::drain_due(s.drain, key, log)),
+        Kind::Candidate => poll_cut::candidate_due(s, key, g.now, log),
+        Kind::Unadopted => on_cycle(s, poll_cycle::unadopted_due(c, key, log)),
+        Kind::Held => poll_cut::held_due(s, g, spread, key, log),
+        Kind::Probe => on_cycle(s, probe(s, g, key, log)),
+        Kind::Delayed => on_cycle(s, poll_cycle::delayed_due(c, key, g.now, log)),
+        Kind::Fin => on_cur(s, poll_epoch::fin_due(s.cur, key, g.now, log)),
+        Kind::Elicit => on_cur(s, poll_epoch::elicit_due(s.cur, key, g.now, log)),
+        Kind::Confirm => poll_cut::confirm_due(s, g, spread, key, log),
+        Kind::DelayEnd => poll_cut::delay_end(s, g, spread, key, log),
+        Kind::Resend => on_cycle(s, resend(s, g, log)),
+        Kind::Expire => {
+            let last = alone(s);
+            on_fail(
+                s,
+                poll_cycle::expire_due(c, s.mem, g.cfg, last, g.now, g.extra, log),
+            )
+        }
     }
 }

@@ -1,22 +1,25 @@
 -- Laws of offered items: one more, one list after another, and all that `due` names.
-use Rattle.std.specs.Prelude.{ℕ, ◌≤◌, ◌<◌, ◌+◌, Bool, ◌||◌, ◌≡◌, List, [], ◌∷◌, ◌++◌, map, leb, ltb, length, get_or}
+use Rattle.std.specs.Prelude.{ℕ, ◌≤◌, ◌<◌, ◌+◌, Bool, ◌||◌, ◌≡◌, List, [], ◌∷◌, ◌++◌, map, leb, ltb, length, get_or, min}
+use Rattle.std.specs.Bool.{then_some}
 use Rattle.std.proofs.Math.Bool.{true, false, not}
 use Rattle.std.proofs.Math.Path.{refl, ap}
-use Rattle.std.proofs.Common.{sym, ◌∙◌, ap₂, arith, le-leb, lt-ltb}
+use Rattle.std.proofs.Common.{sym, ◌∙◌, ap₂, arith, le-leb, lt-ltb, subst}
 use Rattle.std.proofs.Math.Nat.{sub-zero}
 use Rattle.std.proofs.lemmas.Bool.{lt-leb}
+use Rattle.time.specs.Options.{when_of}
 use Rattle.time.specs.Pick.{pick}
+use Rattle.time.proofs.Std.{min_least}
 use Rattle.time.specs.Lists.{fold, range, kept, fold-append, range-next, range-end, kept_append}
 use Rattle.numbers.specs.Numbers.{item_drain, item_candidate}
 use Rattle.candidates.specs.Held.{held_of, held_by, cand_at}
-use Rattle.items.specs.Items.{Item, item, insert, sorted, names, listed_in}
-use Rattle.items.specs.Arrays.{most, items_of, Inserted}
-use Rattle.items.proofs.Laws.{items-end, length-items}
+use Rattle.items.specs.Items.{Item, item, insert, sorted, names, listed_in, untimed}
+use Rattle.items.specs.Arrays.{most}
+use Rattle.items.proofs.Sorted.{length-insert}
 use Rattle.state.specs.declared.State.{State}
 use Rattle.state.specs.Parts.{listed}
+use Rattle.start.specs.Start.{instants}
 use Rattle.wake.specs.Due.{items_at, drain_items, candidate_items, cycle_items, current_items, named, is_due, due_items}
-use Rattle.poll_listing.specs.declared.Two.{Two}
-use Rattle.poll_listing.specs.Listing.{unlisted, fresh, pass_items, offered, two_items, waiting_from, Offered, Collected}
+use Rattle.poll_listing.specs.Listing.{unlisted, fresh, pass_items, offered, waiting_from, Offered}
 
 -- the instant of an item does not matter to whether it is listed
 timeless : (t u k x : ℕ) (l : List Item) → listed_in (item t k x) l ≡ listed_in (item u k x) l
@@ -43,40 +46,43 @@ module _ (done : List Item) (now : ℕ) where
     offered-one true false p q = rw (p, q)
     offered-one false old p q = rw p
 
-module _ {done : List Item} {time : ℕ} where
+module _ {done : List Item} {time : ℕ} {have : List Item} where
   -- nothing is offered
-  pub offer-nothing : (k : ℕ) {at kind key : List ℕ} {n : ℕ} → Offered done time [] k at kind key n at kind key n
+  pub offer-nothing : (k : ℕ) → Offered done time [] k have have
   offer-nothing k = record { items = sym (offered-none done time _); count = omega arith }
+
+  -- fewer than there is room for
+  pub offer-fewer : {l : List Item} {j : ℕ} (k : ℕ) {a : List Item} → j ≤ k → Offered done time l j have a → Offered done time l k have a
+  offer-fewer k h o = record { items = o.items; count = omega (arith, o.count) }
 
   -- one list is offered after another
   pub offer-then :
-      {l m : List Item} {j k : ℕ} {at kind key at' kind' key' at'' kind'' key'' : List ℕ} {n p r : ℕ}
-      → Offered done time l j at kind key n at' kind' key' p → Offered done time m k at' kind' key' p at'' kind'' key'' r
-      → Offered done time (l ++ m) (j + k) at kind key n at'' kind'' key'' r
-  offer-then {l} {m} {j} {k} {at} {kind} {key} {at'} {kind'} {key'} {at''} {kind''} {key''} {n} {p} {r} a b =
+      {l m : List Item} {j k : ℕ} {a b : List Item} → Offered done time l j have a → Offered done time m k a b
+      → Offered done time (l ++ m) (j + k) have b
+  offer-then {l} {m} {j} {k} {a} {b} o p =
       record {
-        items = b.items ∙ (ap (λ s. offered done time s m) a.items ∙ sym (offered-append done time (items_of at kind key n) l m));
-        count = let p : _ = a.count in let q : _ = b.count in omega arith;
+        items = p.items ∙ (ap (λ s. offered done time s m) o.items ∙ sym (offered-append done time have l m));
+        count = omega (arith, o.count, p.count);
       }
 
-  module _ {at kind key : List ℕ} {n : ℕ} (t k x : ℕ) where
+  module _ (i : Item) where
     -- an item that is not due
-    pub offer-later : time < t → Offered done time (item t k x ∷ []) 1 at kind key n at kind key n
-    offer-later h = record { items = sym (offered-one done time (items_of at kind key n) t k x false (listed_in (item t k x) done) (lt-leb t time h) refl); count = omega arith }
+    pub offer-later : time < i.at → Offered done time (i ∷ []) 1 have have
+    offer-later h = record { items = sym (offered-one done time have i.at i.kind i.key false (listed_in i done) (lt-leb i.at time h) refl); count = omega arith }
 
     -- one that an earlier pass listed
-    pub offer-old : t ≤ time → listed_in (item 0 k x) done ≡ true → Offered done time (item t k x ∷ []) 1 at kind key n at kind key n
-    offer-old h e = record { items = sym (offered-one done time (items_of at kind key n) t k x true true (le-leb t time h) (timeless t 0 k x done ∙ e)); count = omega arith }
+    pub offer-old : i.at ≤ time → listed_in (untimed i) done ≡ true → Offered done time (i ∷ []) 1 have have
+    offer-old h e = record { items = sym (offered-one done time have i.at i.kind i.key true true (le-leb i.at time h) (timeless i.at 0 i.kind i.key done ∙ e)); count = omega arith }
 
     -- one that none listed
     pub offer-new :
-        {at' kind' key' : List ℕ} {r : ℕ} → t ≤ time → listed_in (item 0 k x) done ≡ false → n < most → Inserted at kind key n (item t k x) at' kind' key' r
-        → Offered done time (item t k x ∷ []) 1 at kind key n at' kind' key' r
-    offer-new {at'} {kind'} {key'} {r} h e b i =
-        let q : ltb n most ≡ true = lt-ltb n most b in
+        {a : List Item} → i.at ≤ time → listed_in (untimed i) done ≡ false → length have < most → a ≡ pick (ltb (length have) most) (insert i have) have
+        → Offered done time (i ∷ []) 1 have a
+    offer-new {a} h e b q =
+        let there : a ≡ insert i have = q ∙ ap (λ c. pick c (insert i have) have) (lt-ltb (length have) most b) in
         record {
-          items = i.items ∙ (ap (λ c. pick c (insert (item t k x) (items_of at kind key n)) (items_of at kind key n)) q ∙ sym (offered-one done time (items_of at kind key n) t k x true false (le-leb t time h) (timeless t 0 k x done ∙ e)));
-          count = let s : r ≡ n + 1 = i.count ∙ ap (λ c. pick c (n + 1) n) q in omega arith;
+          items = there ∙ sym (offered-one done time have i.at i.kind i.key true false (le-leb i.at time h) (timeless i.at 0 i.kind i.key done ∙ e));
+          count = omega (arith, ap length there, length-insert i have);
         }
 
 -- ---- the candidates
@@ -91,21 +97,21 @@ module _ (deadline seq : List ℕ) (i n : ℕ) where
   waiting-end h = rw (range-end i n h)
 
 -- one candidate more is offered
-module _ (done : List Item) (time : ℕ) (deadline seq : List ℕ) (start : List Item) (i n : ℕ) (at kind key : List ℕ) (p : ℕ) where
-  pub waiting_turn : {at' kind' key' : List ℕ} {r : ℕ} →
-      offered done time start (waiting_from deadline seq 0 n) ≡ offered done time (items_of at kind key p) (waiting_from deadline seq i n)
-      → i < n → Offered done time (item (get_or deadline i 0) item_candidate (get_or seq i 0) ∷ []) 1 at kind key p at' kind' key' r
-      → offered done time start (waiting_from deadline seq 0 n) ≡ offered done time (items_of at' kind' key' r) (waiting_from deadline seq (i + 1) n)
-  waiting_turn {at'} {kind'} {key'} {r} e h o =
+module _ (done : List Item) (time : ℕ) (deadline seq : List ℕ) (start : List Item) (i n : ℕ) (have : List Item) where
+  pub waiting_turn : {a : List Item} →
+      offered done time start (waiting_from deadline seq 0 n) ≡ offered done time have (waiting_from deadline seq i n)
+      → i < n → Offered done time (item (get_or deadline i 0) item_candidate (get_or seq i 0) ∷ []) 1 have a
+      → offered done time start (waiting_from deadline seq 0 n) ≡ offered done time a (waiting_from deadline seq (i + 1) n)
+  waiting_turn {a} e h o =
       e
-      ∙ (ap (offered done time (items_of at kind key p)) (waiting-next deadline seq i n h)
-      ∙ (offered-append done time (items_of at kind key p) (item (get_or deadline i 0) item_candidate (get_or seq i 0) ∷ []) (waiting_from deadline seq (i + 1) n)
+      ∙ (ap (offered done time have) (waiting-next deadline seq i n h)
+      ∙ (offered-append done time have (item (get_or deadline i 0) item_candidate (get_or seq i 0) ∷ []) (waiting_from deadline seq (i + 1) n)
       ∙ ap (λ s. offered done time s (waiting_from deadline seq (i + 1) n)) (sym o.items)))
 
   pub waiting-done :
-      offered done time start (waiting_from deadline seq 0 n) ≡ offered done time (items_of at kind key p) (waiting_from deadline seq i n)
-      → n ≤ i → items_of at kind key p ≡ offered done time start (waiting_from deadline seq 0 n)
-  waiting-done e h = sym (e ∙ (ap (offered done time (items_of at kind key p)) (waiting-end deadline seq i n h) ∙ offered-none done time (items_of at kind key p)))
+      offered done time start (waiting_from deadline seq 0 n) ≡ offered done time have (waiting_from deadline seq i n)
+      → n ≤ i → have ≡ offered done time start (waiting_from deadline seq 0 n)
+  waiting-done e h = sym (e ∙ (ap (offered done time have) (waiting-end deadline seq i n h) ∙ offered-none done time have))
 
 map-twice : {A B C : Type 0} (f : B → C) (g : A → B) (l : List A) → map f (map g l) ≡ map (λ a. f (g a)) l
 map-twice f g [] = refl
@@ -127,21 +133,35 @@ pass_offered : (done : List Item) (s : State) (time : ℕ) → offered done time
 unfolding offered pass_items fresh due_items sorted
 pass_offered done s time = refl
 
--- every item of `due` offered to no item gives those of a pass, and their number
-pub collected :
-    {done : List Item} {time : ℕ} (s : State) {l : List Item} {k : ℕ} {at kind key at' kind' key' : List ℕ} {r : ℕ}
-    → l ≡ drain_items s ++ (candidate_items s ++ (cycle_items s.cycle ++ current_items s.cur))
-    → Offered done time l k at kind key 0 at' kind' key' r → k ≤ most
-    → Collected done s time at' kind' key' r
-collected {done} {time} s {l} {k} {at} {kind} {key} {at'} {kind'} {key'} {r} e o h =
-    let p : items_of at' kind' key' r ≡ pass_items done s time =
-    o.items
-    ∙ (ap₂ (offered done time) (items-end at kind key 0 0 (omega arith)) (e ∙ sym (named-parts s)) ∙ pass_offered done s time) in
-    record { items = p; count = sym (length-items at' kind' key' 0 r ∙ sub-zero r) ∙ ap length p; room = let c : r ≤ 0 + k = o.count in omega arith }
-
--- what the code offers, part by part, is what `due` names
+-- the parts that are offered one after another are those that `due` names
 pub parts-named :
-    (s : State) (m : ℕ) (t u : Two) → m ≡ held_of s.cands.len → two_items t ≡ cycle_items s.cycle → two_items u ≡ current_items s.cur
-    → items_at item_drain s.drain.ep.tag (listed s.drain.some s.drain.deadline) ++ (waiting_from s.cands.deadline s.cands.seq 0 m ++ (two_items t ++ two_items u)) ≡ drain_items s ++ (candidate_items s ++ (cycle_items s.cycle ++ current_items s.cur))
+    (s : State) (m : ℕ) (a b : List Item) → m ≡ held_of s.cands.len → a ≡ cycle_items s.cycle → b ≡ current_items s.cur
+    → items_at item_drain s.drain.ep.tag (listed s.drain.some s.drain.deadline) ++ (waiting_from s.cands.deadline s.cands.seq 0 m ++ (a ++ b)) ≡ drain_items s ++ (candidate_items s ++ (cycle_items s.cycle ++ current_items s.cur))
 unfolding drain_items
-parts-named s m t u h p q = ap (λ l. items_at item_drain s.drain.ep.tag (listed s.drain.some s.drain.deadline) ++ l) (ap₂ ◌++◌ (ap (waiting_from s.cands.deadline s.cands.seq 0) h ∙ waiting-all s) (ap₂ ◌++◌ p q))
+parts-named s m a b h p q =
+    ap (λ l. items_at item_drain s.drain.ep.tag (listed s.drain.some s.drain.deadline) ++ l)
+    (ap₂ ◌++◌ (ap (waiting_from s.cands.deadline s.cands.seq 0) h ∙ waiting-all s) (ap₂ ◌++◌ p q))
+
+-- every item of `due` offered to no item gives those of a pass
+pub collected :
+    {done : List Item} {time : ℕ} (s : State) {l : List Item} {k : ℕ} {a : List Item}
+    → l ≡ drain_items s ++ (candidate_items s ++ (cycle_items s.cycle ++ current_items s.cur)) → Offered done time l k [] a → k ≤ most
+    → (a ≡ pass_items done s time) × (length a ≤ most)
+collected {done} {time} s e o h = (o.items ∙ (ap (offered done time []) (e ∙ sym (named-parts s)) ∙ pass_offered done s time), omega (arith, o.count, h))
+
+pub drain-listed : (b : Bool) (t : ℕ) → instants (when_of (then_some b t)) ≡ listed b t
+drain-listed true t = refl
+drain-listed false t = refl
+
+pub held-least : (n : ℕ) → min n 32 ≡ held_of n
+unfolding held_of
+held-least n = min_least n 32
+
+-- an item made of a deadline has its key
+pub both-named :
+    {done : List Item} {time : ℕ} {have a : List Item} (kind : ℕ) (n : List ℕ) {i j : Item} → i ≡ j
+    → Offered done time (items_at kind i.key n ++ (i ∷ [])) 2 have a → Offered done time (items_at kind j.key n ++ (j ∷ [])) 2 have a
+both-named {done} {time} {have} {a} kind n e o = subst (λ (k : Item). Offered done time (items_at kind k.key n ++ (k ∷ [])) 2 have a) e o
+
+pub one-named : {done : List Item} {time : ℕ} {have a : List Item} {i j : Item} → i ≡ j → Offered done time (i ∷ []) 1 have a → Offered done time (j ∷ []) 1 have a
+one-named {done} {time} {have} {a} e o = subst (λ (k : Item). Offered done time (k ∷ []) 1 have a) e o

@@ -1,13 +1,10 @@
 -- What a pass lists: `due` of machine.rs without what earlier passes listed, in order.
-use Rattle.std.specs.Prelude.{ℕ, ◌≤◌, ◌+◌, ◌-◌, not, ◌≡◌, List, ◌++◌, map, length, get_or}
+use Rattle.std.specs.Prelude.{ℕ, ◌≤◌, ◌+◌, ◌-◌, not, ◌≡◌, List, map, length, get_or}
 use Rattle.time.specs.Lists.{fold, range, kept}
 use Rattle.numbers.specs.Numbers.{item_candidate}
 use Rattle.items.specs.Items.{Item, item, insert, sorted, listed_in}
-use Rattle.items.specs.Arrays.{most, items_of}
 use Rattle.state.specs.declared.State.{State}
-use Rattle.start.specs.Start.{instants}
-use Rattle.wake.specs.Due.{items_at, is_due, due_items}
-use Rattle.poll_listing.specs.declared.Two.{Two}
+use Rattle.wake.specs.Due.{is_due, due_items}
 
 -- "that no earlier pass listed"
 abbrev pub unlisted : List Item → List Item → List Item
@@ -27,23 +24,13 @@ pass_items done s now = sorted (fresh done s now)
 unfoldable pub offered : List Item → ℕ → List Item → List Item → List Item
 offered done now have l = fold (λ s i. insert i s) have (unlisted done (kept (is_due now) l))
 
--- an item of the first kind and one of the second, where their instants are there
-unfoldable pub two_items : Two → List Item
-two_items t = items_at t.kind t.key (instants t.first) ++ items_at t.kind2 t.key (instants t.second)
-
 -- the candidates' items from place i up to place n
 unfoldable pub waiting_from : List ℕ → List ℕ → ℕ → ℕ → List Item
 waiting_from deadline seq i n = map (λ j. item (get_or deadline j 0) item_candidate (get_or seq j 0)) (range i (n - i))
 
 -- ---- what the functions promise
 
--- the items of l, k at most, are offered to the first n
-pub record Offered (done : List Item) (time : ℕ) (l : List Item) (k : ℕ) (at kind key : List ℕ) (n : ℕ) (at' kind' key' : List ℕ) (r : ℕ) : Type 0 where
-  pub items : items_of at' kind' key' r ≡ offered done time (items_of at kind key n) l
-  pub count : r ≤ n + k
-
--- the items of a pass stand in order in the first r places
-pub record Collected (done : List Item) (s : State) (time : ℕ) (at kind key : List ℕ) (r : ℕ) : Type 0 where
-  pub items : items_of at kind key r ≡ pass_items done s time
-  pub count : r ≡ length (pass_items done s time)
-  pub room : r ≤ most
+-- the items of l, k at most, are offered to those there
+pub record Offered (done : List Item) (time : ℕ) (l : List Item) (k : ℕ) (have have' : List Item) : Type 0 where
+  pub items : have' ≡ offered done time have l
+  pub count : length have' ≤ length have + k

@@ -1,51 +1,28 @@
 -- Laws of the passes, for their loop.
 use Prim.Native.Nat.{ℕ, suc, ◌≤◌, ◌<◌, ◌+◌, ◌-◌, ◌*◌}
-use Rattle.std.specs.Prelude.{Bool, true, false, ◌≡◌, eqb, ℤ, get_or}
-use Rattle.std.proofs.Math.Path.{refl, sym, ap}
-use Rattle.std.proofs.Common.{◌∙◌, ap₂, lt-ltb, eq-eqb, ne_eqb}
-use mathlib.Core.List.{List, [], ◌∷◌, ◌++◌, map}
+use Rattle.std.specs.Prelude.{Bool, true, false, ◌≡◌, eqb, ℤ}
+use Rattle.std.proofs.Math.Path.{refl, sym, ap, subst}
+use Rattle.std.proofs.Common.{◌∙◌, ap₂, length-append}
+use Rattle.std.proofs.lemmas.List.{length-map}
+use mathlib.Core.List.{List, [], ◌++◌, map}
 use native.Mathlib.Omega.{arith}
 use Rattle.std.proofs.Math.ListN.{length}
-use Rattle.std.proofs.Math.Seq.{append_snoc}
 use Rattle.time.specs.Pick.{pick}
-use Rattle.time.specs.Time.{least}
-use Rattle.time.specs.Laws.{least-left}
-use Rattle.items.specs.Items.{Item, item, untimed}
-use Rattle.items.specs.Arrays.{most, most_listed, list_at, list_from, list_of, Noted}
+use Rattle.items.specs.Items.{Item, untimed}
+use Rattle.items.specs.Arrays.{most}
 use Rattle.state.specs.declared.State.{State}
 use Rattle.state.specs.declared.Given.{Given}
 use Rattle.events.specs.Events.{Event}
-use Rattle.events.specs.Log.{at, logged}
-use Rattle.events.proofs.Laws.{after-all}
+use Rattle.events.specs.declared.Log.{Log}
+use Rattle.events.specs.Told.{Tells}
+use Rattle.retire.proofs.Told.{tells_then}
 use Rattle.poll_cut.specs.declared.Ran.{Ran}
-use Rattle.poll_listing.specs.Listing.{pass_items, Collected}
-use Rattle.poll_pass.specs.Pass.{first_of, Work, work_of, pass_of}
-use Rattle.poll_pass.specs.Laws.{list-next, list-end, untimed-items, pass_named, pass_after}
-use Rattle.poll_loop.specs.Passes.{Ended, ended, noting, passes_of, three_passes, Extended, Leaves}
-
--- ---- the names of a pass's items
-
-module _ (pk px : List ℕ) (m : ℕ) (all : List Item) (i : ℕ) (kind key : List ℕ) (n : ℕ) where
-  -- one more is put after those listed
-  pub note-turn :
-      {kind' key' : List ℕ} {r : ℕ} → all ≡ list_of kind key n ++ list_from pk px i m → i < m → n < most_listed
-      → Noted kind key n (item 0 (get_or pk i 0) (get_or px i 0)) kind' key' r → all ≡ list_of kind' key' r ++ list_from pk px (i + 1) m
-  note-turn {kind'} {key'} {r} e h b o =
-      let l : list_of kind' key' r ≡ list_of kind key n ++ (list_at pk px i ∷ []) =
-      o.list ∙ ap (λ q. pick q (list_of kind key n ++ (list_at pk px i ∷ [])) (list_of kind key n)) (lt-ltb n most_listed b) in
-      e
-      ∙ (ap (λ q. list_of kind key n ++ q) (list-next pk px i m h)
-      ∙ (sym (append_snoc (list_of kind key n) (list_at pk px i) (list_from pk px (i + 1) m))
-      ∙ ap (λ q. q ++ list_from pk px (i + 1) m) (sym l)))
-
-pub note_count : {kind key kind' key' : List ℕ} {n r : ℕ} {x : Item} → n < most_listed → Noted kind key n x kind' key' r → r ≡ n + 1
-note_count {n = n} b o = o.count ∙ ap (λ q. pick q (n + 1) n) (lt-ltb n most_listed b)
+use Rattle.poll_listing.specs.Listing.{pass_items}
+use Rattle.poll_pass.specs.Pass.{Work, work_of, pass_of, Runs}
+use Rattle.poll_pass.specs.Laws.{pass_after}
+use Rattle.poll_loop.specs.Passes.{Ended, ended, noting, passes_of, three_passes, Leaves}
 
 -- ---- one pass
-
-none-noted : least 0 most_listed ≤ 0
-unfolding least
-none-noted = omega arith
 
 module _ (g : Given) (spread : ℤ) (done : List Item) (count : ℕ) (w : Work) where
   items : List Item
@@ -64,100 +41,97 @@ module _ (g : Given) (spread : ℤ) (done : List Item) (count : ℕ) (w : Work) 
 
 -- ---- the loop
 
-module _ (s₀ : State) (g : Given) (spread : ℤ) (ws₀ : List ℕ) where
+-- the same with another spread and count that are equal
+pub leaves_as : (s₀ : State) (g : Given) {y z : ℤ} {l l' : Log} {s : State} {ends : Bool} {m n : ℕ} → y ≡ z → n ≡ m → Leaves (three_passes s₀ g y) l s ends m l' → Leaves (three_passes s₀ g z) l s ends n l'
+leaves_as s₀ g {y} {l = l} {l' = l'} {s = s} {ends = ends} {n = n} e f t =
+    subst (λ x. Leaves (three_passes s₀ g x) l s ends n l') e (subst (λ k. Leaves (three_passes s₀ g y) l s ends k l') (sym f) t)
+
+module _ (s₀ : State) (g : Given) (spread : ℤ) (l₀ : Log) where
   -- how far the passes have come: what is left from here gives the whole
-  pub record Along (p : ℕ) (dk dx : List ℕ) (dn : ℕ) (s : State) (len : ℕ) (ends : Bool) (ws : List ℕ) : Type 0 where
+  pub record Along (p : ℕ) (listed : List Item) (r : Ran) (l : Log) : Type 0 where
     pub out : List Event
-    pub log : at len ws ≡ logged (at 0 ws₀) out
-    pub whole : three_passes s₀ g spread ≡ passes_of (3 - p) g spread (list_of dk dx dn) dn (work_of s out ends)
-    pub room : dn ≤ 40 * p
+    pub tells : Tells out l₀ l
+    pub whole : three_passes s₀ g spread ≡ passes_of (3 - p) g spread listed (length listed) (work_of r.state out r.ended)
+    pub room : length listed ≤ 40 * p
 
-  pub along_start : (dk dx : List ℕ) → Along 0 dk dx 0 s₀ 0 false ws₀
+  pub along_start : (listed : List Item) → listed ≡ [] → Along 0 listed (record { state = s₀; ended = false }) l₀
   unfolding three_passes
-  along_start dk dx =
-      record { out = []; log = refl; whole = ap (λ l. passes_of 3 g spread l 0 (work_of s₀ [] false)) (sym (list-end dk dx 0 (least 0 most_listed) none-noted)); room = omega arith }
+  along_start listed e =
+      subst (λ q. Along 0 q (record { state = s₀; ended = false }) l₀) (sym e)
+      (record { out = []; tells = record { appends = refl; same_reference = refl }; whole = refl; room = omega arith })
 
-  module _ (p : ℕ) (dk dx : List ℕ) (dn : ℕ) (s : State) (len : ℕ) (ends : Bool) (ws : List ℕ) (a : Along p dk dx dn s len ends ws) where
+  module _ (p : ℕ) (listed : List Item) (r : Ran) (l : Log) (a : Along p listed r l) where
     work : Work
-    work = work_of s a.out ends
+    work = work_of r.state a.out r.ended
 
-    finish : passes_of (3 - p) g spread (list_of dk dx dn) dn work ≡ ended work dn → (z : ℤ) → spread ≡ z → Leaves (three_passes s₀ g z) ws₀ s len ends dn ws
+    finish : passes_of (3 - p) g spread listed (length listed) work ≡ ended work (length listed) → Leaves (three_passes s₀ g spread) l₀ r.state r.ended (length listed) l
     unfolding work
-    finish e z y =
-        let q : ended (work_of s a.out ends) dn ≡ three_passes s₀ g z = sym (a.whole ∙ e) ∙ ap (three_passes s₀ g) y in
+    finish e =
+        let q : ended (work_of r.state a.out r.ended) (length listed) ≡ three_passes s₀ g spread = sym (a.whole ∙ e) in
         record {
           state = ap (λ (t : Ended). t.work.state) q;
-          log = a.log ∙ ap (λ (t : Ended). logged (at 0 ws₀) t.work.out) q;
+          tells = subst (λ (t : Ended). Tells t.work.out l₀ l) q a.tells;
           ends = ap (λ (t : Ended). t.work.ended) q;
           counts = ap (λ (t : Ended). t.count) q;
         }
 
-    -- three passes are over; z is the spread as the function was given it
-    pub along_over : (z : ℤ) → spread ≡ z → 3 ≤ p → Leaves (three_passes s₀ g z) ws₀ s len ends dn ws
-    along_over z y h =
+    -- three passes are over
+    pub along_over : 3 ≤ p → Leaves (three_passes s₀ g spread) l₀ r.state r.ended (length listed) l
+    along_over h =
         let k : 3 - p ≡ 0 = omega arith in
-        finish (ap (λ n. passes_of n g spread (list_of dk dx dn) dn work) k ∙ passes_none g spread (list_of dk dx dn) dn work) z y
+        finish (ap (λ n. passes_of n g spread listed (length listed) work) k ∙ passes_none g spread listed (length listed) work)
 
-    once : p < 3 → passes_of (3 - p) g spread (list_of dk dx dn) dn work ≡ pick ends (ended work dn) (pick (eqb (length (items g spread (list_of dk dx dn) dn work)) 0) (ended work dn) (left g spread (list_of dk dx dn) dn work (3 - (p + 1))))
+    once : p < 3 → passes_of (3 - p) g spread listed (length listed) work ≡ pick r.ended (ended work (length listed)) (pick (eqb (length (items g spread listed (length listed) work)) 0) (ended work (length listed)) (left g spread listed (length listed) work (3 - (p + 1))))
     unfolding work
     once h =
         let k : 3 - p ≡ suc (3 - (p + 1)) = omega arith in
-        ap (λ n. passes_of n g spread (list_of dk dx dn) dn work) k ∙ passes-one g spread (list_of dk dx dn) dn work (3 - (p + 1))
+        ap (λ n. passes_of n g spread listed (length listed) work) k ∙ passes-one g spread listed (length listed) work (3 - (p + 1))
 
     -- the link has ended
-    pub along_ended : (z : ℤ) → spread ≡ z → p < 3 → ends ≡ true → Leaves (three_passes s₀ g z) ws₀ s len ends dn ws
-    along_ended z y h e =
-        finish (once h ∙ ap (λ b. pick b (ended work dn) (pick (eqb (length (items g spread (list_of dk dx dn) dn work)) 0) (ended work dn) (left g spread (list_of dk dx dn) dn work (3 - (p + 1))))) e) z y
+    pub along_ended : p < 3 → r.ended ≡ true → Leaves (three_passes s₀ g spread) l₀ r.state r.ended (length listed) l
+    along_ended h e =
+        finish (once h ∙ ap (λ b. pick b (ended work (length listed)) (pick (eqb (length (items g spread listed (length listed) work)) 0) (ended work (length listed)) (left g spread listed (length listed) work (3 - (p + 1))))) e)
 
-    module _ (pa pk px : List ℕ) (n : ℕ) (c : Collected (list_of dk dx dn) s g.now pa pk px n) (h : p < 3) (live : ends ≡ false) where
-      here : passes_of (3 - p) g spread (list_of dk dx dn) dn work ≡ pick (eqb (length (pass_items (list_of dk dx dn) s g.now)) 0) (ended work dn) (passes_of (3 - (p + 1)) g spread (noting (list_of dk dx dn) (pass_items (list_of dk dx dn) s g.now)) (dn + length (pass_items (list_of dk dx dn) s g.now)) (pass_of g spread (pass_items (list_of dk dx dn) s g.now) work))
-      unfolding items left work
-      here = once h ∙ ap (λ b. pick b (ended work dn) (pick (eqb (length (pass_items (list_of dk dx dn) s g.now)) 0) (ended work dn) (passes_of (3 - (p + 1)) g spread (noting (list_of dk dx dn) (pass_items (list_of dk dx dn) s g.now)) (dn + length (pass_items (list_of dk dx dn) s g.now)) (pass_of g spread (pass_items (list_of dk dx dn) s g.now) work)))) live
-
+    module _ (its : List Item) (collected : its ≡ pass_items listed r.state g.now) (h : p < 3) (live : r.ended ≡ false) where
       after : Ended
-      after = passes_of (3 - (p + 1)) g spread (noting (list_of dk dx dn) (pass_items (list_of dk dx dn) s g.now)) (dn + length (pass_items (list_of dk dx dn) s g.now)) (pass_of g spread (pass_items (list_of dk dx dn) s g.now) work)
+      after = passes_of (3 - (p + 1)) g spread (noting listed its) (length listed + length its) (pass_of g spread its work)
+
+      here : passes_of (3 - p) g spread listed (length listed) work ≡ pick (eqb (length its) 0) (ended work (length listed)) after
+      unfolding items left work after
+      here =
+          once h
+          ∙ (ap (λ b. pick b (ended work (length listed)) (pick (eqb (length (pass_items listed r.state g.now)) 0) (ended work (length listed)) (passes_of (3 - (p + 1)) g spread (noting listed (pass_items listed r.state g.now)) (length listed + length (pass_items listed r.state g.now)) (pass_of g spread (pass_items listed r.state g.now) work)))) live
+          ∙ ap (λ q. pick (eqb (length q) 0) (ended work (length listed)) (passes_of (3 - (p + 1)) g spread (noting listed q) (length listed + length q) (pass_of g spread q work))) (sym collected))
 
       -- no item is left to list
-      pub along_none : (z : ℤ) → spread ≡ z → n ≡ 0 → Leaves (three_passes s₀ g z) ws₀ s len ends dn ws
-      unfolding after
-      along_none z y e = finish (here ∙ ap (λ b. pick b (ended work dn) after) (eq-eqb (length (pass_items (list_of dk dx dn) s g.now)) 0 (sym c.count ∙ e))) z y
+      pub along_none : eqb (length its) 0 ≡ true → Leaves (three_passes s₀ g spread) l₀ r.state r.ended (length listed) l
+      along_none e = finish (here ∙ ap (λ b. pick b (ended work (length listed)) after) e)
 
       -- one pass more
       pub along-next :
-          (n ≡ 0 → ⊥) → (dk' dx' : List ℕ) (dn' : ℕ) (r : Ran) (ws' : List ℕ) → Extended dk dx dn pk px n dk' dx' dn'
-          → (r.state ≡ (pass_of g spread (first_of pk px n) (work_of s [] ends)).state) × ((at r.len ws' ≡ logged (at len ws) (pass_of g spread (first_of pk px n) (work_of s [] ends)).out) × (r.ended ≡ (pass_of g spread (first_of pk px n) (work_of s [] ends)).ended))
-          → Along (p + 1) dk' dx' dn' r.state r.len r.ended ws'
+          eqb (length its) 0 ≡ false → length its ≤ most → (listed' : List Item) → listed' ≡ listed ++ map untimed its → (r' : Ran) (l' : Log) → Runs (pass_of g spread its (work_of r.state [] r.ended)) l r' l'
+          → Along (p + 1) listed' r' l'
       unfolding after work
-      along-next some dk' dx' dn' r ws' o q =
+      along-next some fits listed' o r' l' q =
           record {
             out = a.out ++ w.out;
-            log = after-all (at 0 ws₀) a.out w.out a.log q.1.0;
+            tells = tells_then a.tells q.tells;
             whole =
                 a.whole
                 ∙ (here
-                ∙ (ap (λ b. pick b (ended work dn) after) (ne_eqb (length (pass_items (list_of dk dx dn) s g.now)) 0 (λ e. some (c.count ∙ e)))
-                ∙ (ap₂ (λ l m. passes_of (3 - (p + 1)) g spread l m (pass_of g spread (pass_items (list_of dk dx dn) s g.now) (work_of s a.out ends))) listed counted
-                ∙ ap (passes_of (3 - (p + 1)) g spread (list_of dk' dx' dn') dn') left-work)));
-            room = let x : dn' ≡ dn + n = o.count in let y : dn ≤ 40 * p = a.room in let v : n ≤ most = c.room in omega arith;
+                ∙ (ap (λ b. pick b (ended work (length listed)) after) some
+                ∙ (ap₂ (λ d m. passes_of (3 - (p + 1)) g spread d m (pass_of g spread its (work_of r.state a.out r.ended))) (sym o) counted
+                ∙ ap (passes_of (3 - (p + 1)) g spread listed' (length listed')) left-work)));
+            room = let m : length listed' ≡ length listed + length its = sym counted in let y : length listed ≤ 40 * p = a.room in omega arith;
           }
         where
           w : Work
-          w = pass_of g spread (first_of pk px n) (work_of s [] ends)
+          w = pass_of g spread its (work_of r.state [] r.ended)
 
-          -- a pass has no more items than the code runs
-          every : first_of pk px n ≡ list_from pk px 0 n
-          every = ap (list_from pk px 0) (least-left {a = n} {b = most} c.room)
+          counted : length listed + length its ≡ length listed'
+          counted = sym (simp (length-append, length-map) at (ap length o))
 
-          listed : noting (list_of dk dx dn) (pass_items (list_of dk dx dn) s g.now) ≡ list_of dk' dx' dn'
-          listed = ap (λ l. list_of dk dx dn ++ l) (ap (map untimed) (sym c.items) ∙ untimed-items pa pk px 0 n) ∙ sym o.list
-
-          counted : dn + length (pass_items (list_of dk dx dn) s g.now) ≡ dn'
-          counted = ap (λ m. dn + m) (sym c.count) ∙ sym o.count
-
-          left-work : pass_of g spread (pass_items (list_of dk dx dn) s g.now) (work_of s a.out ends) ≡ work_of r.state (a.out ++ w.out) r.ended
+          left-work : pass_of g spread its (work_of r.state a.out r.ended) ≡ work_of r'.state (a.out ++ w.out) r'.ended
           left-work =
-              ap (λ l. pass_of g spread l (work_of s a.out ends)) (sym c.items)
-              ∙ (sym (pass_named g spread pa pk px n (work_of s a.out ends))
-              ∙ (ap (λ l. pass_of g spread l (work_of s a.out ends)) (sym every)
-              ∙ (pass_after g spread (first_of pk px n) s a.out ends
-              ∙ sym (ap₂ (λ x b. work_of x (a.out ++ w.out) b) q.0 q.1.1))))
+              pass_after g spread its r.state a.out r.ended
+              ∙ sym (ap₂ (λ x b. work_of x (a.out ++ w.out) b) q.state q.ends)

@@ -2,10 +2,10 @@
 use Rattle.std.specs.Prelude.{ℕ, zero, suc, ◌+◌, Bool, false, ◌≡◌, List, [], ◌++◌, map, eqb, ℤ, length}
 use Rattle.time.specs.Pick.{pick}
 use Rattle.items.specs.Items.{Item, untimed}
-use Rattle.items.specs.Arrays.{list_of, list_from}
 use Rattle.state.specs.declared.State.{State}
 use Rattle.state.specs.declared.Given.{Given}
-use Rattle.events.specs.Log.{at, logged}
+use Rattle.events.specs.declared.Log.{Log}
+use Rattle.events.specs.Told.{Tells}
 use Rattle.poll_listing.specs.Listing.{pass_items}
 use Rattle.poll_pass.specs.Pass.{Work, work_of, pass_of}
 
@@ -34,16 +34,11 @@ passes_of (suc n) g spread done count w =
 unfoldable pub three_passes : State → Given → ℤ → Ended
 three_passes s g spread = passes_of 3 g spread [] 0 (work_of s [] false)
 
--- ---- what the functions promise
+-- ---- what the passes promise
 
--- the names of a pass's items put after n
-pub record Extended (kind key : List ℕ) (n : ℕ) (pk px : List ℕ) (m : ℕ) (kind' key' : List ℕ) (r : ℕ) : Type 0 where
-  pub list : list_of kind' key' r ≡ list_of kind key n ++ list_from pk px 0 m
-  pub count : r ≡ n + m
-
--- the state, the log, whether the link ended, and the count
-pub record Leaves (t : Ended) (ws₀ : List ℕ) (s : State) (len : ℕ) (ended : Bool) (count : ℕ) (ws : List ℕ) : Type 0 where
+-- the state, the events behind those of the log, whether the link ended, and the count
+pub record Leaves (t : Ended) (l : Log) (s : State) (ended : Bool) (count : ℕ) (l' : Log) : Type 0 where
   pub state : s ≡ t.work.state
-  pub log : at len ws ≡ logged (at 0 ws₀) t.work.out
+  pub tells : Tells t.work.out l l'
   pub ends : ended ≡ t.work.ended
   pub counts : count ≡ t.count

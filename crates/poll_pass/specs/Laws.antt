@@ -1,98 +1,77 @@
 -- Laws of a pass, for the loop over its items.
-use Rattle.std.specs.Prelude.{ℕ, ◌≤◌, ◌<◌, ◌+◌, ◌-◌, Bool, true, ◌≡◌, List, [], ◌∷◌, ◌++◌, map, ℤ, get_or}
-use Rattle.std.proofs.Math.Path.{refl}
-use Rattle.std.proofs.Common.{sym, ◌∙◌, ap, ap₂, append_assoc, append-nil}
+use Rattle.std.specs.Prelude.{ℕ, ◌<◌, ◌≤◌, ◌+◌, Bool, true, ◌≡◌, List, [], ◌∷◌, ◌++◌, map, length, take, get_or, ℤ}
+use Rattle.std.proofs.Math.Path.{refl, subst}
+use Rattle.std.proofs.Common.{sym, ◌∙◌, ap, append_assoc, append-nil}
+use Rattle.std.proofs.lemmas.List.{map-append, take_all, take_more}
 use Rattle.time.specs.Pick.{pick}
-use Rattle.time.specs.Lists.{fold, range, range-next, range-end}
+use Rattle.time.specs.Lists.{fold, fold-append}
+use Rattle.numbers.specs.Cases.{kind_no}
+use Rattle.items.specs.declared.Item.{Item as Timed}
 use Rattle.items.specs.Items.{Item, untimed}
-use Rattle.items.specs.Arrays.{item_at, items_from, items_of, list_at, list_from}
+use Rattle.items.specs.Arrays.{item_of}
 use Rattle.state.specs.declared.State.{State}
 use Rattle.state.specs.declared.Given.{Given}
 use Rattle.events.specs.Events.{Event}
-use Rattle.events.specs.Log.{at, logged}
-use Rattle.events.proofs.Laws.{after-all}
+use Rattle.events.specs.declared.Log.{Log}
+use Rattle.events.specs.Told.{Tells}
+use Rattle.retire.proofs.Told.{tells_then}
 use Rattle.poll_cut.specs.declared.Ran.{Ran}
-use Rattle.poll_cut.specs.Cut.{Step}
+use Rattle.poll_cut.specs.Cut.{Step, Did}
 use Rattle.poll_item.specs.Item.{item_step}
-use Rattle.poll_pass.specs.Pass.{Work, work_of, did, run_item, pass_of}
-
-pub list-next : (kind key : List ℕ) (i n : ℕ) → i < n → list_from kind key i n ≡ list_at kind key i ∷ list_from kind key (i + 1) n
-unfolding list_from
-list-next kind key i n h = rw (range-next i n h)
-
-pub list-end : (kind key : List ℕ) (i n : ℕ) → n ≤ i → list_from kind key i n ≡ []
-unfolding list_from
-list-end kind key i n h = rw (range-end i n h)
+use Rattle.poll_pass.specs.Pass.{Work, work_of, did, run_item, pass_of, Runs}
 
 module _ (g : Given) (spread : ℤ) where
-  pass_one : (i : Item) (l : List Item) (w : Work) → pass_of g spread (i ∷ l) w ≡ pass_of g spread l (did w (item_step w.state g spread i.kind i.key))
+  -- one item and then the rest
+  pub pass_one : (i : Item) (l : List Item) (w : Work) → pass_of g spread (i ∷ l) w ≡ pass_of g spread l (did w (item_step w.state g spread i.kind i.key))
   unfolding pass_of fold run_item
   pass_one i l w = refl
 
-  pass_none : (w : Work) → pass_of g spread [] w ≡ w
+  pub pass_none : (w : Work) → pass_of g spread [] w ≡ w
   unfolding pass_of fold
   pass_none w = refl
 
-  module _ (kind key : List ℕ) (n : ℕ) (s₀ : State) (len₀ : ℕ) (ended₀ : Bool) (ws₀ : List ℕ) where
-    -- how far the loop has come: what is left of the pass from place i on gives the whole
-    pub record Along (i : ℕ) (s : State) (len : ℕ) (ended : Bool) (ws : List ℕ) : Type 0 where
-      pub out : List Event
-      pub log : at len ws ≡ logged (at len₀ ws₀) out
-      pub whole : pass_of g spread (list_from kind key 0 n) (work_of s₀ [] ended₀) ≡ pass_of g spread (list_from kind key i n) (work_of s out ended)
+  -- a pass goes by kinds and keys alone, whatever the instants
+  pub pass_untimed : (l : List Item) (w : Work) → pass_of g spread (map untimed l) w ≡ pass_of g spread l w
+  unfolding pass_of fold run_item
+  pass_untimed [] w = refl
+  pass_untimed (i ∷ l) w = pass_untimed l (run_item g spread w i)
 
-    pub along_start : Along 0 s₀ len₀ ended₀ ws₀
-    along_start = record { out = []; log = refl; whole = refl }
+  -- no item yet
+  pub runs_none : (s : State) (ended : Bool) (l : Log) → Runs (pass_of g spread [] (work_of s [] ended)) l (record { state = s; ended = ended }) l
+  unfolding pass_of fold
+  runs_none s ended l = record { state = refl; tells = record { appends = refl; same_reference = refl }; ends = refl }
 
-    module _ (i : ℕ) (s : State) (len : ℕ) (ended : Bool) (ws : List ℕ) (a : Along i s len ended ws) where
-      -- one item more
-      pub along-next :
-          (r : Ran) (e : Bool) (ws' : List ℕ) → i < n
-          → (r.state ≡ (item_step s g spread (get_or kind i 0) (get_or key i 0)).state) × ((at r.len ws' ≡ logged (at len ws) (item_step s g spread (get_or kind i 0) (get_or key i 0)).out) × (r.ended ≡ (item_step s g spread (get_or kind i 0) (get_or key i 0)).ends))
-          → e ≡ pick ended true r.ended
-          → Along (i + 1) r.state r.len e ws'
-      along-next r e ws' h p q =
-          record {
-            out = a.out ++ t.out;
-            log = after-all (at len₀ ws₀) a.out t.out a.log p.1.0;
-            whole =
-                a.whole
-                ∙ (ap (λ l. pass_of g spread l (work_of s a.out ended)) (list-next kind key i n h)
-                ∙ (pass_one (list_at kind key i) (list_from kind key (i + 1) n) (work_of s a.out ended)
-                ∙ ap (λ w. pass_of g spread (list_from kind key (i + 1) n) w) (sym here)));
-          }
-        where
-          t : Step
-          t = item_step s g spread (get_or kind i 0) (get_or key i 0)
+  pass-next : (xs : List Timed) (i : ℕ) (d : Timed) (w : Work) → i < length xs → pass_of g spread (map item_of (take (i + 1) xs)) w ≡ run_item g spread (pass_of g spread (map item_of (take i xs)) w) (item_of (get_or xs i d))
+  unfolding pass_of fold
+  pass-next xs i d w h =
+      ap (λ l. fold (run_item g spread) w (map item_of l)) (take_more xs i d h)
+      ∙ (ap (fold (run_item g spread) w) (map-append item_of (take i xs) (get_or xs i d ∷ []))
+      ∙ fold-append (run_item g spread) w (map item_of (take i xs)) (item_of (get_or xs i d) ∷ []))
 
-          here : work_of r.state (a.out ++ t.out) e ≡ did (work_of s a.out ended) t
-          here = ap₂ (λ x b. work_of x (a.out ++ t.out) b) p.0 (q ∙ ap (pick ended true) p.1.1)
+  -- one item more
+  pub runs-next :
+      (xs : List Timed) (i : ℕ) (d : Timed) (w : Work) {l m n : Log} {r t : Ran} (r' : Ran) → i < length xs → Runs (pass_of g spread (map item_of (take i xs)) w) l r m
+      → Did (item_step r.state g spread (kind_no (get_or xs i d).due.kind) (get_or xs i d).due.key) m t n → r'.state ≡ t.state → r'.ended ≡ pick r.ended true t.ended
+      → Runs (pass_of g spread (map item_of (take (i + 1) xs)) w) l r' n
+  unfolding run_item
+  runs-next xs i d w {l} {m} {n} {r} {t} r' h p q e f =
+      let x : Item = item_of (get_or xs i d) in
+      let here : State → Step = λ s. item_step s g spread x.kind x.key in
+      let v : Work = pass_of g spread (map item_of (take i xs)) w in
+      subst (λ (o : Work). Runs o l r' n) (sym (pass-next xs i d w h))
+      (record {
+        state = e ∙ (q.0 ∙ ap (λ s. (here s).state) p.state);
+        tells = subst (λ s. Tells (v.out ++ (here s).out) l n) p.state (tells_then p.tells q.1.0);
+        ends = f ∙ (ap (λ b. pick r.ended true b) q.1.1 ∙ (ap (λ s. pick r.ended true (here s).ends) p.state ∙ ap (λ b. pick b true (here v.state).ends) p.ends));
+      })
 
-      -- the items are done; z is the spread as the function was given it
-      pub along_done : (z : ℤ) → spread ≡ z → n ≤ i → (s ≡ (pass_of g z (list_from kind key 0 n) (work_of s₀ [] ended₀)).state) × ((at len ws ≡ logged (at len₀ ws₀) (pass_of g z (list_from kind key 0 n) (work_of s₀ [] ended₀)).out) × (ended ≡ (pass_of g z (list_from kind key 0 n) (work_of s₀ [] ended₀)).ended))
-      along_done z y h =
-          let all : work_of s a.out ended ≡ pass_of g z (list_from kind key 0 n) (work_of s₀ [] ended₀) =
-          sym (a.whole ∙ (ap (λ l. pass_of g spread l (work_of s a.out ended)) (list-end kind key i n h) ∙ pass_none (work_of s a.out ended)))
-          ∙ ap (λ x. pass_of g x (list_from kind key 0 n) (work_of s₀ [] ended₀)) y in
-          (ap (λ (w : Work). w.state) all, (a.log ∙ ap (λ (w : Work). logged (at len₀ ws₀) w.out) all, ap (λ (w : Work). w.ended) all))
-
--- ---- the instants of a pass's items do not matter
-
-pub untimed-items : (at kind key : List ℕ) (i n : ℕ) → map untimed (items_from at kind key i n) ≡ list_from kind key i n
-unfolding items_from list_from
-untimed-items at kind key i n = under (range i (n - i))
-  where
-    under : (l : List ℕ) → map untimed (map (item_at at kind key) l) ≡ map (list_at kind key) l
-    under [] = refl
-    under (j ∷ l) = ap (λ r. list_at kind key j ∷ r) (under l)
-
-pass_untimed : (g : Given) (spread : ℤ) (l : List Item) (w : Work) → pass_of g spread (map untimed l) w ≡ pass_of g spread l w
-unfolding pass_of fold run_item
-pass_untimed g spread [] w = refl
-pass_untimed g spread (i ∷ l) w = pass_untimed g spread l (run_item g spread w i)
-
--- a pass over the names of items is a pass over the items
-pub pass_named : (g : Given) (spread : ℤ) (at kind key : List ℕ) (n : ℕ) (w : Work) → pass_of g spread (list_from kind key 0 n) w ≡ pass_of g spread (items_of at kind key n) w
-pass_named g spread at kind key n w = ap (λ l. pass_of g spread l w) (sym (untimed-items at kind key 0 n)) ∙ pass_untimed g spread (items_of at kind key n) w
+  -- the items are done; z is the spread as the function was given it
+  pub runs_all :
+      (xs : List Timed) (its : List Item) (i : ℕ) (w : Work) {l m : Log} {r : Ran} (z : ℤ) → spread ≡ z → length xs ≤ i → map item_of xs ≡ its → Runs (pass_of g spread (map item_of (take i xs)) w) l r m
+      → Runs (pass_of g z its w) l r m
+  runs_all xs its i w {l} {m} {r} z y h e p =
+      subst (λ x. Runs (pass_of g x its w) l r m) y
+      (subst (λ q. Runs (pass_of g spread q w) l r m) (ap (map item_of) (take_all i xs h) ∙ e) p)
 
 -- ---- events that were there before a pass stay in front
 

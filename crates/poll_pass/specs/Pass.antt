@@ -1,19 +1,16 @@
 -- One pass of a poll: `expire_pass` of machine.rs.
-use Rattle.std.specs.Prelude.{ℕ, Bool, true, List, ◌++◌, ℤ}
+use Rattle.std.specs.Prelude.{Bool, true, ◌≡◌, List, ◌++◌, ℤ}
 use Rattle.time.specs.Pick.{pick}
 use Rattle.time.specs.Lists.{fold}
-use Rattle.time.specs.Time.{least}
 use Rattle.items.specs.Items.{Item}
-use Rattle.items.specs.Arrays.{most, list_from}
 use Rattle.state.specs.declared.State.{State}
 use Rattle.state.specs.declared.Given.{Given}
 use Rattle.events.specs.Events.{Event}
+use Rattle.events.specs.declared.Log.{Log}
+use Rattle.events.specs.Told.{Tells}
+use Rattle.poll_cut.specs.declared.Ran.{Ran}
 use Rattle.poll_cut.specs.Cut.{Step}
 use Rattle.poll_item.specs.Item.{item_step}
-
--- the items of a pass as the code has them, by kind and key: the first n, 40 at most
-abbrev pub first_of : List ℕ → List ℕ → ℕ → List Item
-first_of kind key n = list_from kind key 0 (least n most)
 
 -- the state, the events so far, and whether the link has ended
 pub record Work : Type 0 where
@@ -35,3 +32,11 @@ run_item g spread w i = did w (item_step w.state g spread i.kind i.key)
 -- `expire_pass`: every item in order, also after one that ends the link
 unfoldable pub pass_of : Given → ℤ → List Item → Work → Work
 pass_of g spread items w = fold (run_item g spread) w items
+
+-- ---- what the functions promise
+
+-- the work is done: its state, its events behind those of the log, and whether the link has ended
+pub record Runs (w : Work) (l : Log) (r : Ran) (l' : Log) : Type 0 where
+  pub state : r.state ≡ w.state
+  pub tells : Tells w.out l l'
+  pub ends : r.ended ≡ w.ended

@@ -5,7 +5,7 @@ use Rattle.std.proofs.Common.{true≢false, inl, inr, ⊎_elim, sym, ◌∙◌, 
 use Rattle.std.proofs.lemmas.Bool.{false≢true}
 use Rattle.time.specs.Pick.{pick}
 use Rattle.time.specs.Laws.{decide}
-use Rattle.refusal.specs.declared.Refused.{Refused}
+use Rattle.refusal.specs.Refused.{Refused}
 use Rattle.refusal.specs.Refusal.{any_of, Test, accepted, first, by}
 use Rattle.refusal.specs.First.{any_back, back_at, back_below, rising}
 

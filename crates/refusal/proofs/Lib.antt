@@ -1,4 +1,4 @@
-mod Signs
-mod Parts
+pub mod Parts
 pub mod Standing
 pub mod First
+pub mod Settings

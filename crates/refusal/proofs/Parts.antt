@@ -1,14 +1,16 @@
 -- Tests that are made in parts: those of l, and then those of m. Assumes nothing.
-use Prim.Native.Nat.{ℕ}
-use mathlib.Core.Bool.{Bool, true, false, ◌||◌}
+use mathlib.Core.Bool.{Bool, true, false}
 use mathlib.Core.Path.{◌≡◌, refl, sym, ◌∙◌, ap}
 use mathlib.Core.List.{List, [], ◌∷◌, ◌++◌}
 use Rattle.time.specs.Pick.{pick}
-use Rattle.state.specs.declared.State.{State}
-use Rattle.refusal.specs.declared.Refused.{Refused}
-use Rattle.refusal.specs.Refusal.{any_of, cands_bad, epochs_bad, numbers_bad, ladders_bad, Test, accepted, first, numbered, by, state_tests, state_back}
+use Rattle.std.specs.Prelude.{Result, Err}
+use Rattle.std.proofs.Common.{arith}
+use Rattle.refusal.specs.declared.Refusal.{Refusal}
+use Rattle.refusal.specs.declared.Refusal.TheVariants as back
+use Rattle.refusal.specs.Refused.{Refused, number_of, refused_of}
+use Rattle.refusal.specs.Refusal.{any_of, Test, accepted, first}
 use Rattle.refusal.specs.First.{rising, any_back}
-use Rattle.refusal.proofs.First.{or_left, or_right, none-back, back_none}
+use Rattle.refusal.proofs.First.{or_left, or_right, none-back}
 
 stays : (l m : List Test) → ((first l).number ≡ 0 → ⊥) → first l ≡ first (l ++ m)
 unfolding first
@@ -40,42 +42,24 @@ module _ (l : List Test) (r : Refused) (e : r ≡ first l) where
     pub in_next : (m : List Test) (q : Refused) → q ≡ first m → q ≡ first (l ++ m)
     in_next m q f = f ∙ passed_over l m none
 
-    -- one test more sends back, or none does
-    pub sent : (n : ℕ) (b : Bool) → b ≡ true → numbered n ≡ first (l ++ by n b ∷ [])
-    unfolding first
-    sent n b h = in_next (by n b ∷ []) (numbered n) (ap (λ b. pick b (numbered n) accepted) (sym h))
+-- a refusal has a number
+pub numbered_one : (e : Refusal) → number_of e ≡ 0 → ⊥
+numbered_one (back.Settings place) h = omega (arith, h)
+numbered_one back.Profile h = omega (arith, h)
+numbered_one back.Candidates h = omega (arith, h)
+numbered_one back.NoCurrent h = omega (arith, h)
+numbered_one back.Shared h = omega (arith, h)
+numbered_one back.Ladder h = omega (arith, h)
+numbered_one back.Draw h = omega (arith, h)
+numbered_one back.Slot h = omega (arith, h)
+numbered_one back.Tag h = omega (arith, h)
+numbered_one back.NoStart h = omega (arith, h)
+numbered_one back.Sent h = omega (arith, h)
 
-    pub unsent : (n : ℕ) (b : Bool) → b ≡ false → r ≡ first (l ++ by n b ∷ [])
-    unfolding first
-    unsent n b h = in_next (by n b ∷ []) r (e ∙ back_none l none ∙ ap (λ b. pick b (numbered n) accepted) (sym h))
+-- tests in two parts: the first part sends back, ..
+pub failed : (l m : List Test) (e : Refusal) (q : Result (Unit {0}) Refusal) → q ≡ Err e → refused_of (Err e) ≡ first l → refused_of q ≡ first (l ++ m)
+failed l m e q h f = rw h (in_first l (refused_of (Err e)) f m (numbered_one e))
 
--- two tests of one number
-pub merged : (l : List Test) (n : ℕ) (x y : Bool) → first ((l ++ by n x ∷ []) ++ by n y ∷ []) ≡ first (l ++ by n (x || y) ∷ [])
-unfolding first
-merged [] n true y = refl
-merged [] n false y = refl
-merged (t ∷ l) n x y = ap (λ r. pick t.back t.answer r) (merged l n x y)
-
--- 3 to 6, by their four conditions
-pub state-number : (s : State) → state_back s ≡ pick (cands_bad s) 3 (pick (epochs_bad s) 4 (pick (numbers_bad s) 5 (pick (ladders_bad s) 6 0)))
-unfolding state_back state_tests first
-state-number s = under (cands_bad s) (epochs_bad s) (numbers_bad s) (ladders_bad s)
-  where
-    under : (a b c d : Bool) → (first (by 3 a ∷ by 4 b ∷ by 5 c ∷ by 6 d ∷ [])).number ≡ pick a 3 (pick b 4 (pick c 5 (pick d 6 0)))
-    under true b c d = refl
-    under false true c d = refl
-    under false false true d = refl
-    under false false false true = refl
-    under false false false false = refl
-
--- no place is given with them
-pub state-numbered : (s : State) (n : ℕ) → n ≡ state_back s → numbered n ≡ first (state_tests s)
-unfolding state_back state_tests first
-state-numbered s n e = ap numbered e ∙ under (cands_bad s) (epochs_bad s) (numbers_bad s) (ladders_bad s)
-  where
-    under : (a b c d : Bool) → numbered (first (by 3 a ∷ by 4 b ∷ by 5 c ∷ by 6 d ∷ [])).number ≡ first (by 3 a ∷ by 4 b ∷ by 5 c ∷ by 6 d ∷ [])
-    under true b c d = refl
-    under false true c d = refl
-    under false false true d = refl
-    under false false false true = refl
-    under false false false false = refl
+-- .. or it does not, and the second part decides
+pub passed : (l m : List Test) (q : Result (Unit {0}) Refusal) → rising 0 l ≡ true → accepted ≡ first l → refused_of q ≡ first m → refused_of q ≡ first (l ++ m)
+passed l m q r h f = in_next l accepted h r refl m (refused_of q) f

@@ -1,5 +1,9 @@
 -- The conditions on a state, place by place, as the code tries them.
 use Rattle.std.specs.Prelude.{ℕ, Bool, true, false, ◌&&◌, ◌||◌, ◌≡◌, refl, List, [], ◌∷◌, ◌++◌, map, eqb}
+use Rattle.std.specs.Prelude.{Option}
+use Rattle.std.specs.Bool.{then_some}
+use Rattle.time.specs.Options.{when_of}
+use Rattle.time.specs.Time.{whenever}
 use Rattle.std.proofs.Common.{sym, ◌∙◌, eqb-true, eq-eqb, ne_eqb}
 use Rattle.std.proofs.Math.Path.{ap, ap₂}
 use Rattle.std.proofs.lemmas.List.{map-append}
@@ -155,3 +159,24 @@ tags-apart s =
     (ap (map tag) (held-three s)
     ∙ tags-listed s.cur.some (is_pending s.cycle.kind) s.drain.some s.cur.ep (pending_ep s.cycle) s.drain.ep)
     ∙ apart (tag_of s.cur.some s.cur.ep) (tag_of (is_pending s.cycle.kind) (pending_ep s.cycle)) (tag_of s.drain.some s.drain.ep)
+
+-- the tags as options
+pub tags-held : (s : State) (a b c : Option ℕ) → a ≡ then_some s.cur.some s.cur.ep.tag → when_of b ≡ whenever (is_pending s.cycle.kind) (pending_ep s.cycle).tag → c ≡ then_some s.drain.some s.drain.ep.tag → (r : Bool) → r ≡ tags_bad (when_of a) (when_of b) (when_of c) → r ≡ repeated (tags_of s)
+unfolding tags_bad shared_of
+tags-held s a b c e f g r h =
+    h
+    ∙ rw (e, f, g)
+    (under s.cur.some (is_pending s.cycle.kind) s.drain.some
+    ∙ sym (tags-apart s))
+  where
+    under : (i j k : Bool) → tags_bad (when_of (then_some i s.cur.ep.tag)) (whenever j (pending_ep s.cycle).tag) (when_of (then_some k s.drain.ep.tag)) ≡ tags_bad (tag_of i s.cur.ep) (tag_of j (pending_ep s.cycle)) (tag_of k s.drain.ep)
+    under true true true = refl
+    under true true false = refl
+    under true false true = refl
+    under true false false = refl
+    under false true true = refl
+    under false true false = refl
+    under false false true = refl
+    under false false false = refl
+
+pub ruleset apart_words = (ladders-apart, tags-apart)

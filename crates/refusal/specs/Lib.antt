@@ -1,3 +1,4 @@
+pub mod Refused
 pub mod Refusal
 pub mod Standing
 pub mod First

@@ -13,7 +13,7 @@ use Rattle.candidates.specs.Repeats.{repeated}
 use Rattle.state.specs.declared.State.{State}
 use Rattle.state.specs.declared.Profile.{Profile}
 use Rattle.state.specs.Parts.{epochs_of, ladders_of}
-use Rattle.refusal.specs.declared.Refused.{Refused}
+use Rattle.refusal.specs.Refused.{Refused}
 
 -- a test that holds of some element
 unfoldable pub any_of : {A : Type 0} → (A → Bool) → List A → Bool

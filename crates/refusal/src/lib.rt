@@ -1,342 +1,306 @@
-// Refusals 1 to 7: what a call tests before it does anything.
+// Refusals: why a call is sent back, and what a call tests before it does anything (1 to 7). A state is
+// read where it stands: no epoch is copied.
 #![tactic(auto)]
 
-ghost use Rattle.std.specs.Prelude.{◌≡◌};
-ghost use Rattle.refusal.specs.Refusal.{profile_bad, is_pending, epochs_bad_of, numbers_bad, ladder_bad, ladders_bad, spread_bad, extra_bad, first, given_tests, state_back, before_open, before_poll, before_frame, before_link, before_told};
-ghost use Rattle.refusal.specs.Standing.{pending_ep, shared_of, tags_bad, standing_bad, either_bad, epoch_bad, held_bad, cycle_bad};
+ghost use Rattle.std.specs.Prelude.{◌≡◌, ◌||◌, [], ◌∷◌};
+ghost use Rattle.numbers.specs.Numbers.{refused_draw};
+ghost use Rattle.time.specs.Options.{when_of};
+ghost use Rattle.time.specs.Time.{whenever};
+ghost use Rattle.candidates.specs.Repeats.{repeated};
+ghost use Rattle.refusal.specs.Refused.{number_of, place_of, refused_of};
+ghost use Rattle.refusal.specs.Refusal.{profile_bad, is_pending, epochs_bad, tags_of, numbers_bad, ladder_bad, ladders_bad, spread_bad, extra_bad, first, by, given_tests, before_open, before_poll, before_frame, before_link, before_told};
+ghost use Rattle.refusal.specs.Standing.{pending_ep, shared_of, tags_bad, epoch_bad, held_bad, cycle_bad};
 
 use cycle::Cycle;
 use epoch::Epoch;
-use ladder::MAX_LEN;
+use ladder::{Ladder, MAX_LEN};
+use numbers::cycle::Stage;
 use settings::Config;
 use state::{Profile, State};
-use time::When;
 
-// The number of the first refusal, 0 where the call is accepted; and in 1 the place of the check.
-#[repr(C)]
-#[derive(Clone, Copy)]
-pub struct Refused {
-    pub number: u8,
-    pub place: u8,
+// Why a call is sent back.
+#[derive(Clone, Copy, PartialEq, Eq)]
+pub enum Refusal {
+    // The settings fail a check, whose place in file order, from 1, is given.
+    Settings(u8),
+    // A profile value lies outside its range.
+    Profile,
+    // The state holds more than 32 candidates.
+    Candidates,
+    // A pending or drained epoch stands without a current one.
+    NoCurrent,
+    // Two epochs share a tag, or two candidates a sequence number.
+    Shared,
+    // A ladder has more than MAX_RUNGS rungs, or stands past its last.
+    Ladder,
+    // A draw lies outside its range.
+    Draw,
+    // A frame names a slot that holds no epoch.
+    Slot,
+    // A frame's tag is not that epoch's tag.
+    Tag,
+    // A start reply comes while no start is called for, or the sent count has reached `hard`.
+    NoStart,
+    // A told sent count is below the held one.
+    Sent,
+}
+
+impl Refusal {
+    // The number that the call answers, from 1.
+    pub fn number(self) -> u8
+        ensures { result ≡ number_of self }
+    {
+        match self {
+            Refusal::Settings(_) => numbers::refused::SETTINGS,
+            Refusal::Profile => numbers::refused::PROFILE,
+            Refusal::Candidates => numbers::refused::CANDIDATES,
+            Refusal::NoCurrent => numbers::refused::NO_CURRENT,
+            Refusal::Shared => numbers::refused::SHARED,
+            Refusal::Ladder => numbers::refused::LADDER,
+            Refusal::Draw => numbers::refused::DRAW,
+            Refusal::Slot => numbers::refused::SLOT,
+            Refusal::Tag => numbers::refused::TAG,
+            Refusal::NoStart => numbers::refused::NO_START,
+            Refusal::Sent => numbers::refused::SENT,
+        }
+    }
+
+    // The place of the settings' check; 0 with every other number.
+    pub fn place(self) -> u8
+        ensures { result ≡ place_of self }
+    {
+        match self {
+            Refusal::Settings(place) => place,
+            _ => 0,
+        }
+    }
 }
 
 // 2: a profile value outside its range.
+#[tactic(auto, unfolding(crate::specs::Refusal::profile_bad))]
 pub fn profile_bad(p: Profile) -> bool
     ensures { result ≡ profile_bad p }
 {
-    if 64 < p.floor {
-        return true;
-    }
-    if p.messages == 2 {
-        return false;
-    }
-    if p.messages == 3 {
-        return false;
-    }
-    true
+    64 < p.floor || !matches!(p.messages, 2 | 3)
 }
 
 // 6: a ladder with more than MAX_RUNGS rungs, or one that stands past its last.
-pub fn ladder_bad(len: u8, next: u8) -> bool
-    ensures { result ≡ ladder_bad len next }
+#[tactic(auto, unfolding(crate::specs::Refusal::ladder_bad))]
+fn ladder_bad(l: &Ladder) -> bool
+    ensures { result ≡ ladder_bad l.now.sched.len l.now.next }
 {
-    if MAX_LEN < len { true } else { len < next }
+    MAX_LEN < l.sched.len || l.sched.len < l.next
 }
 
 // 7: a spread outside -j to j.
+#[tactic(auto, unfolding(crate::specs::Refusal::spread_bad))]
 pub fn spread_bad(j: u16, spread: i32) -> bool
     ensures { result ≡ spread_bad j spread }
 {
-    let top = j as i32;
-    if spread < 0 - top {
-        return true;
-    }
-    top < spread
+    let top = i32::from(j);
+    spread < -top || top < spread
 }
 
 // 7: an extra above j.
+#[tactic(auto, unfolding(crate::specs::Refusal::extra_bad))]
 pub fn extra_bad(j: u16, extra: u32) -> bool
     ensures { result ≡ extra_bad j extra }
 {
-    (j as u32) < extra
+    u32::from(j) < extra
 }
 
-// Whether a cycle of this kind has a pending epoch.
-fn is_pending(kind: u8) -> bool
-    ensures { result ≡ is_pending kind }
+// 7: one of both draws outside its range.
+pub fn draws_bad(j: u16, spread: i32, extra: u32) -> bool
+    ensures { result ≡ (spread_bad j spread || extra_bad j extra) }
 {
-    if kind == numbers::cycle::PENDI {
-        true
-    } else {
-        kind == numbers::cycle::PENDR
-    }
+    spread_bad(j, spread) || extra_bad(j, extra)
 }
 
-// The pending epoch, where there is one.
-fn pending_epoch(c: Cycle) -> Epoch
-    ensures { result ≡ pending_ep c }
+// Whether the cycle has a pending epoch.
+#[tactic(auto, unfolding(crate::specs::Refusal::is_pending))]
+fn is_pending(c: &Cycle) -> bool
+    ensures { result ≡ is_pending c.now.kind }
 {
-    if c.kind == numbers::cycle::PENDI {
-        let own = c.pendi.ep;
-        return own;
-    }
-    let theirs = c.pendr.ep;
-    theirs
+    matches!(c.stage(), Stage::PendI | Stage::PendR)
 }
 
 // 4: a pending or drained epoch without a current one.
-fn epochs_bad(cur: bool, pending: bool, drain: bool) -> bool
-    ensures { result ≡ epochs_bad_of cur pending drain }
+#[tactic(auto, unfolding(crate::specs::Refusal::epochs_bad_of))]
+pub fn epochs_bad(s: &State) -> bool
+    ensures { result ≡ epochs_bad s.now }
 {
-    if cur {
-        return false;
+    !s.cur.some && (is_pending(&s.cycle) || s.drain.some)
+}
+
+// The pending epoch's tag, where there is one.
+#[tactic(auto, unfolding(crate::specs::Standing::pending_ep, crate::specs::Refusal::is_pending))]
+fn pending_tag(c: &Cycle) -> Option<u64>
+    ensures { when_of result ≡ whenever (is_pending c.now.kind) (pending_ep c.now).tag }
+{
+    match c.stage() {
+        Stage::PendI => Some(c.pendi.ep.tag),
+        Stage::PendR => Some(c.pendr.ep.tag),
+        Stage::Idle | Stage::Init => None,
     }
-    if pending { true } else { drain }
 }
 
 // Whether both are there and equal.
-fn shared(a: When, b: When) -> bool
-    ensures { result ≡ shared_of a b }
+#[tactic(auto, unfolding(crate::specs::Standing::shared_of))]
+fn shared(a: Option<u64>, b: Option<u64>) -> bool
+    ensures { result ≡ shared_of (when_of a) (when_of b) }
 {
-    if a.some {
-        if b.some { a.at == b.at } else { false }
-    } else {
-        false
-    }
+    a.is_some() && a == b
 }
 
 // 5: two of three tags that are there are equal.
-fn tags_bad(a: When, b: When, c: When) -> bool
-    ensures { result ≡ tags_bad a b c }
+#[tactic(auto, unfolding(crate::specs::Standing::tags_bad))]
+fn tags_bad(a: Option<u64>, b: Option<u64>, c: Option<u64>) -> bool
+    ensures { result ≡ tags_bad (when_of a) (when_of b) (when_of c) }
 {
-    if shared(a, b) {
-        return true;
-    }
-    if shared(a, c) {
-        return true;
-    }
-    shared(b, c)
+    shared(a, b) || shared(a, c) || shared(b, c)
 }
 
-// 6: a ladder that is there is bad.
-fn standing_bad(some: bool, len: u8, next: u8) -> bool
-    ensures { result ≡ standing_bad some len next }
+// 5: two epochs share a tag.
+pub fn tags_repeat(s: &State) -> bool
+    ensures { result ≡ repeated (tags_of s.now) }
 {
-    if some { ladder_bad(len, next) } else { false }
+    let cur = s.cur.some.then_some(s.cur.ep.tag);
+    let pending = pending_tag(&s.cycle);
+    let drained = s.drain.some.then_some(s.drain.ep.tag);
+    tags_bad(cur, pending, drained)
 }
 
-// 6: one of two ladders that may be absent is bad.
-fn either_bad(a: bool, a_len: u8, a_next: u8, b: bool, b_len: u8, b_next: u8) -> bool
-    ensures { result ≡ either_bad a a_len a_next b b_len b_next }
+// 5: two epochs share a tag, or two candidates a sequence number.
+#[tactic(auto, unfolding(crate::specs::Refusal::numbers_bad))]
+fn numbers_bad(s: &State) -> bool
+    ensures { result ≡ numbers_bad s.now }
 {
-    if standing_bad(a, a_len, a_next) {
-        return true;
-    }
-    standing_bad(b, b_len, b_next)
+    tags_repeat(s) || s.cands.repeats()
 }
 
 // 6: a ladder of an epoch is bad: the retained final message's, or the prompt repeats.
-fn epoch_bad(e: Epoch) -> bool
-    ensures { result ≡ epoch_bad e }
+#[tactic(auto, unfolding(crate::specs::Standing::epoch_bad, crate::specs::Standing::either_bad, crate::specs::Standing::standing_bad))]
+pub fn epoch_bad(e: &Epoch) -> bool
+    ensures { result ≡ epoch_bad e.now }
 {
-    either_bad(
-        e.fin.some,
-        e.fin.ladder.sched.len,
-        e.fin.ladder.next,
-        e.elicit.some,
-        e.elicit.ladder.sched.len,
-        e.elicit.ladder.next,
-    )
-}
-
-// 6: a ladder of an epoch that may be absent is bad.
-fn held_bad(some: bool, e: Epoch) -> bool
-    ensures { result ≡ held_bad some e }
-{
-    if some { epoch_bad(e) } else { false }
+    e.fin.some && ladder_bad(&e.fin.ladder) || e.elicit.some && ladder_bad(&e.elicit.ladder)
 }
 
 // 6: a ladder of the cycle itself is bad: an attempt's, or a completed attempt's final message and
 // probes.
-fn cycle_bad(c: Cycle) -> bool
-    ensures { result ≡ cycle_bad c }
+#[tactic(auto, unfolding(crate::specs::Standing::cycle_bad, crate::specs::Standing::either_bad, crate::specs::Standing::standing_bad))]
+pub fn cycle_bad(c: &Cycle) -> bool
+    ensures { result ≡ cycle_bad c.now }
 {
-    if c.kind == numbers::cycle::INIT {
-        return ladder_bad(c.init.ladder.sched.len, c.init.ladder.next);
+    match c.stage() {
+        Stage::Init => ladder_bad(&c.init.ladder),
+        Stage::PendI => {
+            let p = &c.pendi;
+            p.fin.some && ladder_bad(&p.fin.ladder) || p.probes.some && ladder_bad(&p.probes.ladder)
+        }
+        Stage::Idle | Stage::PendR => false,
     }
-    if c.kind == numbers::cycle::PENDI {
-        return either_bad(
-            c.pendi.fin.some,
-            c.pendi.fin.ladder.sched.len,
-            c.pendi.fin.ladder.next,
-            c.pendi.probes.some,
-            c.pendi.probes.ladder.sched.len,
-            c.pendi.probes.ladder.next,
-        );
-    }
-    false
 }
 
-// 5: two epochs share a tag, or two candidates a sequence number.
-fn numbers_bad(s: State) -> bool
-    ensures { result ≡ numbers_bad s }
+// 6: a ladder of the pending epoch is bad.
+#[tactic(auto, unfolding(crate::specs::Standing::held_bad, crate::specs::Standing::pending_ep, crate::specs::Refusal::is_pending))]
+pub fn pending_bad(c: &Cycle) -> bool
+    ensures { result ≡ held_bad (is_pending c.now.kind) (pending_ep c.now) }
 {
-    let c = s.cycle;
-    let stands = is_pending(s.cycle.kind);
-    let ep = pending_epoch(c);
-    let cur = When {
-        some: s.cur.some,
-        at: s.cur.ep.tag,
-    };
-    let pending = When {
-        some: stands,
-        at: ep.tag,
-    };
-    let drained = When {
-        some: s.drain.some,
-        at: s.drain.ep.tag,
-    };
-    if tags_bad(cur, pending, drained) {
-        return true;
+    match c.stage() {
+        Stage::PendI => epoch_bad(&c.pendi.ep),
+        Stage::PendR => epoch_bad(&c.pendr.ep),
+        Stage::Idle | Stage::Init => false,
     }
-    let n = s.cands.len;
-    candidates::repeats(&s.cands.seq, n)
 }
 
 // 6: a ladder that stands is bad.
-fn ladders_bad(s: State) -> bool
-    ensures { result ≡ ladders_bad s }
+#[tactic(auto, using(crate::proofs::Standing::apart_words), unfolding(crate::specs::Standing::held_bad))]
+fn ladders_bad(s: &State) -> bool
+    ensures { result ≡ ladders_bad s.now }
 {
-    let c = s.cycle;
-    if cycle_bad(c) {
-        return true;
-    }
-    let cur = s.cur.ep;
-    if held_bad(s.cur.some, cur) {
-        return true;
-    }
-    let stands = is_pending(s.cycle.kind);
-    let pending = pending_epoch(c);
-    if held_bad(stands, pending) {
-        return true;
-    }
-    let drained = s.drain.ep;
-    held_bad(s.drain.some, drained)
+    cycle_bad(&s.cycle)
+        || s.cur.some && epoch_bad(&s.cur.ep)
+        || pending_bad(&s.cycle)
+        || s.drain.some && epoch_bad(&s.drain.ep)
 }
 
-// 3 to 6: the number of the first that sends the state back, 0 where it is accepted. The count is
-// tried before any place is read.
-pub fn state_back(s: State) -> u8
-    ensures { result ≡ state_back s }
+// What a told sent count tests before its own 11: 3 to 6. The count is tried before any place is read.
+#[tactic(auto, unfolding(crate::specs::Refusal::first, crate::specs::Refusal::state_tests))]
+pub fn before_told(s: &State) -> Result<(), Refusal>
+    ensures { refused_of result ≡ before_told s.now }
 {
     if 32 < s.cands.len {
-        return numbers::refused::CANDIDATES;
+        return Err(Refusal::Candidates);
     }
-    let stands = is_pending(s.cycle.kind);
-    if epochs_bad(s.cur.some, stands, s.drain.some) {
-        return numbers::refused::NO_CURRENT;
+    if epochs_bad(s) {
+        return Err(Refusal::NoCurrent);
     }
     if numbers_bad(s) {
-        return numbers::refused::SHARED;
+        return Err(Refusal::Shared);
     }
     if ladders_bad(s) {
-        return numbers::refused::LADDER;
+        return Err(Refusal::Ladder);
     }
-    0
+    Ok(())
 }
 
 // 1 and 2.
-fn before_given(cfg: Config, p: Profile) -> Refused
-    ensures { result ≡ first (given_tests cfg p) }
+#[tactic(auto, using(crate::proofs::Settings::place_words), unfolding(crate::specs::Refusal::first, crate::specs::Refusal::given_tests))]
+fn before_given(cfg: Config, p: Profile) -> Result<(), Refusal>
+    ensures { refused_of result ≡ first (given_tests cfg p) }
 {
-    let place = settings::place(cfg);
-    if place != 0 {
-        return Refused {
-            number: numbers::refused::SETTINGS,
-            place: place,
-        };
+    if let Err(check) = settings::accept(cfg) {
+        return Err(Refusal::Settings(check.place()));
     }
     if profile_bad(p) {
-        return Refused {
-            number: numbers::refused::PROFILE,
-            place: 0,
-        };
+        return Err(Refusal::Profile);
     }
-    Refused {
-        number: 0,
-        place: 0,
-    }
+    Ok(())
+}
+
+// 7, where a draw lies outside its range.
+#[tactic(auto, unfolding(crate::specs::Refusal::first))]
+fn draw(bad: bool) -> Result<(), Refusal>
+    ensures { refused_of result ≡ first (by refused_draw bad ∷ []) }
+{
+    if bad { Err(Refusal::Draw) } else { Ok(()) }
 }
 
 // What `open` tests: 1, 2, 7.
-pub fn before_open(cfg: Config, p: Profile, spread: i32) -> Refused
-    ensures { result ≡ before_open cfg p spread }
+pub fn before_open(cfg: Config, p: Profile, spread: i32) -> Result<(), Refusal>
+    ensures { refused_of result ≡ before_open cfg p spread }
 {
-    let back = before_given(cfg, p);
-    if back.number != 0 {
-        return back;
-    }
-    if spread_bad(cfg.jitter, spread) {
-        return Refused {
-            number: numbers::refused::DRAW,
-            place: 0,
-        };
-    }
-    back
-}
-
-// What a told sent count tests before its own 11: 3 to 6.
-pub fn before_told(s: State) -> Refused
-    ensures { result ≡ before_told s }
-{
-    let number = state_back(s);
-    Refused {
-        number: number,
-        place: 0,
-    }
+    before_given(cfg, p)?;
+    draw(spread_bad(cfg.jitter, spread))
 }
 
 // What a start reply tests before its own 10, and what wake and status test: 1 to 6.
-pub fn before_link(s: State, cfg: Config, p: Profile) -> Refused
-    ensures { result ≡ before_link s cfg p }
+pub fn before_link(s: &State, cfg: Config, p: Profile) -> Result<(), Refusal>
+    ensures { refused_of result ≡ before_link s.now cfg p }
 {
-    let back = before_given(cfg, p);
-    if back.number != 0 {
-        return back;
-    }
+    before_given(cfg, p)?;
     before_told(s)
 }
 
 // What a notice tests, and a frame before its own 8 and 9: 1 to 7, with the spread alone.
-pub fn before_frame(s: State, cfg: Config, p: Profile, spread: i32) -> Refused
-    ensures { result ≡ before_frame s cfg p spread }
+pub fn before_frame(s: &State, cfg: Config, p: Profile, spread: i32) -> Result<(), Refusal>
+    ensures { refused_of result ≡ before_frame s.now cfg p spread }
 {
-    let back = before_link(s, cfg, p);
-    if back.number != 0 {
-        return back;
-    }
-    if spread_bad(cfg.jitter, spread) {
-        return Refused {
-            number: numbers::refused::DRAW,
-            place: 0,
-        };
-    }
-    back
+    before_link(s, cfg, p)?;
+    draw(spread_bad(cfg.jitter, spread))
 }
 
 // What a poll tests: 1 to 7, with both draws.
-pub fn before_poll(s: State, cfg: Config, p: Profile, spread: i32, extra: u32) -> Refused
-    ensures { result ≡ before_poll s cfg p spread extra }
+pub fn before_poll(
+    s: &State,
+    cfg: Config,
+    p: Profile,
+    spread: i32,
+    extra: u32,
+) -> Result<(), Refusal>
+    ensures { refused_of result ≡ before_poll s.now cfg p spread extra }
 {
-    let back = before_frame(s, cfg, p, spread);
-    if back.number != 0 {
-        return back;
-    }
-    if extra_bad(cfg.jitter, extra) {
-        return Refused {
-            number: numbers::refused::DRAW,
-            place: 0,
-        };
-    }
-    back
+    before_link(s, cfg, p)?;
+    draw(draws_bad(cfg.jitter, spread, extra))
 }

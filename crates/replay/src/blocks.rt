@@ -1,110 +1,107 @@
-// The block that is read, and what the program holds from line to line.
+// The block that is read.
+use replay_answers::Kind;
 use settings::Config;
-use state::State;
+use state::{Profile, State};
 use text_calls::Link;
 use text_lines::Output;
+use text_words::Call;
 
-// Whether the block is a run, and which of its lines have been read. Where the state claims more than
-// the row keeps, `claim` is the length of its line, which is kept beside the link, else 0: every call
-// but `open` leaves such a state.
+// Its kind, and what its lines have given so far; none stands before the first.
+#[derive(Drop)]
+pub struct Block<'a> {
+    pub kind: Kind,
+    pub cfg: Option<Config>,
+    pub profile: Option<Profile>,
+    pub state: Option<State>,
+    // The line of a state that claims more than a state holds stands at the front of `kept`, and this is
+    // its length: every call but `open` leaves such a state.
+    claim: Option<usize>,
+    // Fixed memory: the longest line fits.
+    kept: &'a mut [u8],
+}
+
+// What a call needs and no line has given: settings and a profile, or a state.
 #[derive(Clone, Copy)]
-pub struct Block {
-    pub run: bool,
-    pub cfg: bool,
-    pub profile: bool,
-    pub state: bool,
-    pub claim: usize,
+pub enum Early {
+    Given,
+    State,
 }
 
-// The output and the block so far, and whether the program is to stop.
-#[derive(Clone, Copy)]
-pub struct Step {
-    pub o: Output,
-    pub block: Block,
-    pub stop: bool,
-}
+impl<'a> Block<'a> {
+    pub fn new(kept: &'a mut [u8]) -> Block<'a> {
+        Block {
+            kind: Kind::Vector,
+            cfg: None,
+            profile: None,
+            state: None,
+            claim: None,
+            kept,
+        }
+    }
 
-// What a line leaves.
-#[derive(Clone, Copy)]
-pub struct Turn {
-    pub step: Step,
-    pub link: Link,
-}
+    // The next block.
+    pub fn begin(&mut self, kind: Kind) {
+        self.kind = kind;
+        self.cfg = None;
+        self.profile = None;
+        self.state = None;
+        self.claim = None;
+    }
 
-pub fn none() -> Step {
-    Step {
-        o: Output::new(),
-        block: blank(false),
-        stop: false,
+    // The end of a block: a run's end state.
+    pub fn close(&self, out: &mut Output<'_, '_, impl Print>) {
+        let Some(state) = &self.state else {
+            return;
+        };
+        if self.kind == Kind::Vector {
+            return;
+        }
+        match self.claim {
+            None => replay_answers::write_state(out, state),
+            Some(n) => write_claim(out, &*self.kept, n),
+        }
+    }
+
+    // A state line that was read; one that claims too much is kept.
+    pub fn give(&mut self, state: State, line: &[u8], claims: bool) {
+        self.state = Some(state);
+        self.claim = None;
+        if claims {
+            let n = text_lines::put(&mut *self.kept, 0, line);
+            self.claim = Some(n);
+        }
+    }
+
+    // The link for a call: every call needs settings and a profile, and each but `open` a state.
+    pub fn link(&self, call: Call) -> Result<Link, Early> {
+        let cfg = self.cfg.ok_or(Early::Given)?;
+        let profile = self.profile.ok_or(Early::Given)?;
+        let state = match self.state {
+            Some(state) => state,
+            None if call == Call::Open => text_records::blank_state(),
+            None => return Err(Early::State),
+        };
+        Ok(Link {
+            state,
+            cfg,
+            profile,
+        })
+    }
+
+    // The block after a call that left a state: a run goes on with it.
+    pub fn settle(&mut self, call: Call, left: State) {
+        if self.kind == Kind::Vector {
+            return;
+        }
+        self.state = Some(left);
+        if call == Call::Open {
+            self.claim = None;
+        }
     }
 }
 
-// No call is made before settings, a profile and a state are given, or a link is opened.
-pub fn no_link() -> Link {
-    let zero = [0u64; text_form::ROW];
-    let state = text_records::state_of(&zero);
-    let cfg = Config::fmp();
-    let profile = text_records::plain_profile();
-    Link {
-        state: state,
-        cfg: cfg,
-        profile: profile,
-    }
-}
-
-pub fn blank(run: bool) -> Block {
-    Block {
-        run: run,
-        cfg: false,
-        profile: false,
-        state: false,
-        claim: 0,
-    }
-}
-
-// Whether settings and a profile stand before a call.
-pub fn given(block: Block) -> bool {
-    if block.cfg { block.profile } else { false }
-}
-
-// Whether the lines that a call needs stand before it: every call needs settings and a profile, and
-// each but `open` a state.
-pub fn ready(block: Block, call: u8) -> bool {
-    if !given(block) {
-        return false;
-    }
-    if block.state {
-        true
-    } else {
-        call == text_words::OPEN
-    }
-}
-
-// A block after an accepted call: an `open` of a run brings a state.
-pub fn after(block: Block, call: u8) -> Block {
-    if call != text_words::OPEN {
-        return block;
-    }
-    let mut opened = block;
-    opened.state = time::either(block.state, block.run);
-    opened.claim = 0;
-    opened
-}
-
-pub fn ends_with_state(block: Block) -> bool {
-    if block.run { block.state } else { false }
-}
-
-// The step with another output.
-pub fn written(step: Step, o: Output) -> Step {
-    let mut next = step;
-    next.o = o;
-    next
-}
-
-// The link with another state.
-pub fn with_state(link: Link, state: State) -> Link {
-    let mut next = link;
-    next.state = state;
-    next
+fn write_claim(out: &mut Output<'_, '_, impl Print>, kept: &[u8], n: usize) {
+    out.bytes(b"= ");
+    out.bytes(&kept[..n.min(kept.len())]);
+    out.bytes(b"\n");
 }

@@ -1,391 +1,235 @@
-// Lists, line by line: each line is read, and then changes the link or is answered.
-use crate::blocks::{Step, Turn};
-use crate::{blocks, reading};
-use replay_answers::Told;
-use state::State;
-use text::Scan;
+// Lists, line by line: each line is read, and then changes the block or is answered.
+use crate::blocks::{Block, Early};
+use replay_answers::Kind;
+use settings::Config;
+use text::{Fault, Scan};
 use text_args::ARGS;
-use text_calls::Link;
-use text_form::{ROW, Reading, places};
-use text_lines::{Input, Output};
+use text_form::{Names, Reader};
+use text_lines::Output;
+use text_words::{CALLS, Call};
 
-// The lines of a list that are no calls, by their places among the words of `answer`.
-const VECTOR: usize = 0;
+// The longest buffer of a frame.
+const MOST: usize = 65536;
 
-const RUN: usize = 1;
+// What a line is.
+#[derive(Clone, Copy)]
+enum Line {
+    Begin(Kind),
+    Settings,
+    Profile,
+    State,
+    Call(Call),
+}
 
-const CFG: usize = 2;
+// The lines that are no calls, by their words.
+static LINES: [(&[u8], Line); 5] = [
+    (b"vector", Line::Begin(Kind::Vector)),
+    (b"run", Line::Begin(Kind::Run)),
+    (b"cfg", Line::Settings),
+    (b"profile", Line::Profile),
+    (b"state", Line::State),
+];
 
-const PROFILE: usize = 3;
+// What is wrong with a line: the field at which it stopped, or what does not stand before it.
+#[derive(Clone, Copy)]
+enum Wrong {
+    At(Fault),
+    Early(Early),
+}
 
-// Writes a line and its answers, unless it is an answer itself.
+impl From<Fault> for Wrong {
+    fn from(fault: Fault) -> Wrong {
+        Wrong::At(fault)
+    }
+}
+
+impl From<Early> for Wrong {
+    fn from(early: Early) -> Wrong {
+        Wrong::Early(early)
+    }
+}
+
+impl Line {
+    // The line that the next field names.
+    fn read(scan: &mut Scan<'_>) -> Option<Line> {
+        if let Some(call) = Call::read(scan) {
+            return Some(Line::Call(call));
+        }
+        for (word, line) in &LINES {
+            if scan.accept(word) {
+                return Some(*line);
+            }
+        }
+        None
+    }
+}
+
+// Writes a line and its answers, unless it is an answer itself, and answers whether to go on. Where it
+// does not read it is told; what was answered before it is written out first.
 pub fn respond(
-    rt: &(impl Print + Eprint),
+    out: &mut Output<'_, '_, impl Print + Eprint>,
+    block: &mut Block<'_>,
     given: &[u8],
-    out: &mut [u8],
-    turn: Turn,
-    kept: &mut [u8],
     number: u64,
-) -> Turn {
-    let n = text_lines::line_end(given);
-    text_lines::progress(rt, number);
-    let next = answer(rt, &given[..n], out, turn, kept, number);
-    let link = next.link;
-    turned(reading::checked(rt, next.step, number), link)
-}
-
-fn turned(step: Step, link: Link) -> Turn {
-    Turn {
-        step: step,
-        link: link,
+) -> bool {
+    let line = &given[..text_lines::line_end(given)];
+    text_lines::progress(out.rt, number);
+    if line.starts_with(b"= ") {
+        return text_lines::written(out, number);
     }
-}
-
-fn answer(
-    rt: &(impl Print + Eprint),
-    line: &[u8],
-    out: &mut [u8],
-    turn: Turn,
-    kept: &mut [u8],
-    number: u64,
-) -> Turn {
-    if is_answer(line) {
-        return turn;
-    }
-    let word = Scan::new().word(line, b"vector run cfg profile state");
-    let scan = word.scan;
-    let step = turn.step;
-    let link = turn.link;
-    if scan.fault == text::NONE {
-        return given(rt, line, out, step, link, kept, number, word.index, scan);
-    }
-    call(rt, line, out, step, link, number)
-}
-
-fn is_answer(line: &[u8]) -> bool {
-    if line.len() < 2 {
+    let mut reader = Reader::by_place(Scan::new(line));
+    let Some(kind) = Line::read(&mut reader.scan) else {
+        text_lines::finish(out, number);
+        tell_first_word(out.rt, number, &reader.scan);
         return false;
-    }
-    if line[0] == b'=' {
-        line[1] == b' '
-    } else {
-        false
+    };
+    match take(out, block, kind, line, &mut reader) {
+        Ok(()) => text_lines::written(out, number),
+        Err(wrong) => {
+            text_lines::finish(out, number);
+            tell(out.rt, number, &reader, wrong);
+            false
+        }
     }
 }
 
-// A line that is no call.
-fn given(
-    rt: &(impl Print + Eprint),
+fn take(
+    out: &mut Output<'_, '_, impl Print>,
+    block: &mut Block<'_>,
+    kind: Line,
     line: &[u8],
-    out: &mut [u8],
-    step: Step,
-    link: Link,
-    kept: &mut [u8],
-    number: u64,
-    index: usize,
-    scan: Scan,
-) -> Turn {
-    match index {
-        VECTOR | RUN => begin(rt, line, out, step, link, kept, number, index == RUN, scan),
-        CFG => cfg(rt, line, out, step, link, number, scan),
-        PROFILE => profile(rt, line, out, step, link, number, scan),
-        _ => claimed(line, kept, state(rt, line, out, step, link, number, scan)),
+    reader: &mut Reader<'_>,
+) -> Result<(), Wrong> {
+    match kind {
+        Line::Begin(kind) => begin(out, block, kind, reader)?,
+        Line::Settings => cfg(block, reader)?,
+        Line::Profile => profile(block, reader)?,
+        Line::State => state(block, line, reader)?,
+        Line::Call(Call::Frame) => return frame(out, block, line, reader),
+        Line::Call(call) => return other(out, block, call, line, reader),
     }
+    copy(out, line);
+    Ok(())
 }
 
-// Keeps the line of a state that claims more than the row keeps.
-fn claimed(line: &[u8], kept: &mut [u8], turn: Turn) -> Turn {
-    let step = turn.step;
-    let link = turn.link;
-    let mut block = step.block;
-    if block.claim == 0 {
-        return turn;
-    }
-    block.claim = text_lines::put(kept, 0, line);
-    let mut next = step;
-    next.block = block;
-    turned(next, link)
+fn copy(out: &mut Output<'_, '_, impl Print>, line: &[u8]) {
+    out.bytes(line);
+    out.bytes(b"\n");
 }
 
 // `vector N` and `run N`
 fn begin(
-    rt: &(impl Print + Eprint),
-    line: &[u8],
-    out: &mut [u8],
-    step: Step,
-    link: Link,
-    kept: &[u8],
-    number: u64,
-    run: bool,
-    scan: Scan,
-) -> Turn {
-    let mut v = [0u64; 1];
-    let read = text_form::read_fields(line, scan, text_words::BLOCK, &mut v);
-    if read.scan.fault != text::NONE {
-        return turned(reading::stopped(rt, line, out, step, number, read), link);
-    }
-    let closed = close(rt, out, step, link.state, kept);
-    turned(reading::begin(rt, line, out, step, closed, run), link)
+    out: &mut Output<'_, '_, impl Print>,
+    block: &mut Block<'_>,
+    kind: Kind,
+    reader: &mut Reader<'_>,
+) -> Result<(), Fault> {
+    reader.number(u64::MAX)?;
+    reader.scan.end()?;
+    block.close(out);
+    block.begin(kind);
+    Ok(())
 }
 
-fn cfg(
-    rt: &(impl Print + Eprint),
-    line: &[u8],
-    out: &mut [u8],
-    step: Step,
-    link: Link,
-    number: u64,
-    scan: Scan,
-) -> Turn {
-    let mut v = [0u64; places::SETTINGS];
-    let next = reading::cfg(rt, line, out, step, number, scan, &mut v);
-    let read = text_records::config_of(&v);
-    let mut changed = link;
-    if !next.stop {
-        changed.cfg = read;
-    }
-    turned(next, changed)
+fn cfg(block: &mut Block<'_>, reader: &mut Reader<'_>) -> Result<(), Fault> {
+    let mut cfg = Config::fmp();
+    text_records::read_record(reader, &mut cfg)?;
+    block.cfg = Some(cfg);
+    Ok(())
 }
 
-fn profile(
-    rt: &(impl Print + Eprint),
-    line: &[u8],
-    out: &mut [u8],
-    step: Step,
-    link: Link,
-    number: u64,
-    scan: Scan,
-) -> Turn {
-    let mut v = [0u64; places::PROFILE];
-    let next = reading::profile(rt, line, out, step, number, scan, &mut v);
-    let read = text_records::profile_of(&v);
-    let mut changed = link;
-    if !next.stop {
-        changed.profile = read;
-    }
-    turned(next, changed)
+fn profile(block: &mut Block<'_>, reader: &mut Reader<'_>) -> Result<(), Fault> {
+    let mut profile = text_records::plain_profile();
+    text_records::read_record(reader, &mut profile)?;
+    block.profile = Some(profile);
+    Ok(())
 }
 
-fn state(
-    rt: &(impl Print + Eprint),
-    line: &[u8],
-    out: &mut [u8],
-    step: Step,
-    link: Link,
-    number: u64,
-    scan: Scan,
-) -> Turn {
-    let mut v = [0u64; ROW];
-    let next = reading::state(rt, line, out, step, number, scan, &mut v);
-    let read = text_records::state_of(&v);
-    let mut changed = link;
-    if !next.stop {
-        changed.state = read;
-    }
-    turned(next, changed)
-}
-
-fn call(
-    rt: &(impl Print + Eprint),
-    line: &[u8],
-    out: &mut [u8],
-    step: Step,
-    link: Link,
-    number: u64,
-) -> Turn {
-    let word = text_words::call(line);
-    let scan = word.scan;
-    let index = word.index;
-    if index == text_words::CALLS as usize {
-        return turned(reading::first_word(rt, line, out, step, number), link);
-    }
-    if index == text_words::FRAME as usize {
-        return frame(rt, line, out, step, link, number, scan);
-    }
-    other(rt, line, out, step, link, number, call_of(index), scan)
-}
-
-fn call_of(index: usize) -> u8 {
-    if index < 256 { index as u8 } else { 255 }
+fn state(block: &mut Block<'_>, line: &[u8], reader: &mut Reader<'_>) -> Result<(), Fault> {
+    let mut state = text_records::blank_state();
+    text_records::read_state(reader, &mut state)?;
+    block.give(state, line, reader.cut);
+    Ok(())
 }
 
 // Every call but `frame`.
 fn other(
-    rt: &(impl Print + Eprint),
+    out: &mut Output<'_, '_, impl Print>,
+    block: &mut Block<'_>,
+    call: Call,
     line: &[u8],
-    out: &mut [u8],
-    step: Step,
-    link: Link,
-    number: u64,
-    call: u8,
-    scan: Scan,
-) -> Turn {
+    reader: &mut Reader<'_>,
+) -> Result<(), Wrong> {
     let mut a = [0u64; ARGS];
-    let next = reading::call(rt, line, out, step, number, call, scan, &mut a);
-    if next.stop {
-        return turned(next, link);
+    text_form::read_arguments(reader, call, &mut a)?;
+    reader.scan.end()?;
+    let link = block.link(call)?;
+    copy(out, line);
+    if let Some(left) = replay_answers::answer(out, link, block.kind, call, &a) {
+        block.settle(call, left);
     }
-    let told = replay_answers::answer(rt, out, next.o, link, next.block.run, call, &a);
-    settle(next, link, call, told)
-}
-
-// The state that the next call gets, and the block after an accepted call.
-fn settle(step: Step, link: Link, call: u8, told: Told) -> Turn {
-    let o = told.o;
-    let state = told.state;
-    let mut next = blocks::written(step, o);
-    if told.accepted {
-        next.block = blocks::after(step.block, call);
-    }
-    turned(next, blocks::with_state(link, state))
+    Ok(())
 }
 
 // `frame`, whose buffers have at most 65,536 bytes each.
 fn frame(
-    rt: &(impl Print + Eprint),
+    out: &mut Output<'_, '_, impl Print>,
+    block: &mut Block<'_>,
     line: &[u8],
-    out: &mut [u8],
-    step: Step,
-    link: Link,
-    number: u64,
-    scan: Scan,
-) -> Turn {
+    reader: &mut Reader<'_>,
+) -> Result<(), Wrong> {
     let mut a = [0u64; ARGS];
-    let mut target = [0u8; 65536];
-    let mut source = [0u8; 65536];
-    let read = text_form::read_first(line, scan, text_words::FRAME, &mut a);
-    let to = text_hex::read(line, read.scan, &mut target);
-    let from = text_hex::read(line, to.scan, &mut source);
-    let next = framed(rt, line, out, step, number, read, from.scan.end(line));
-    if next.stop {
-        return turned(next, link);
-    }
-    answer_from(
-        rt,
+    let mut target = [0u8; MOST];
+    let mut source = [0u8; MOST];
+    text_form::read_arguments(reader, Call::Frame, &mut a)?;
+    reader.most = MOST as u64;
+    let m = text_hex::read(&mut reader.scan, &mut target)?.min(MOST);
+    let n = text_hex::read(&mut reader.scan, &mut source)?.min(MOST);
+    reader.scan.end()?;
+    let link = block.link(Call::Frame)?;
+    copy(out, line);
+    let left = replay_answers::hand(
         out,
-        next,
         link,
+        block.kind,
+        Call::Frame,
         &a,
-        &source,
-        from.len,
-        &mut target,
-        to.len,
-    )
-}
-
-// The line of a frame, with the scan past its buffers.
-fn framed(
-    rt: &(impl Print + Eprint),
-    line: &[u8],
-    out: &mut [u8],
-    step: Step,
-    number: u64,
-    read: Reading,
-    past: Scan,
-) -> Step {
-    if past.fault != text::NONE {
-        return reading::stopped(rt, line, out, step, number, with_scan(read, past));
-    }
-    reading::called(rt, line, out, step, number, text_words::FRAME)
-}
-
-// What was read up to the buffers, with the scan past them.
-fn with_scan(read: Reading, scan: Scan) -> Reading {
-    let mut past = read;
-    past.scan = scan;
-    if read.scan.fault == text::NONE {
-        past.most = 65536;
-    }
-    past
-}
-
-// A frame whose source is the first `n` bytes of a buffer.
-fn answer_from(
-    rt: &impl Print,
-    out: &mut [u8],
-    step: Step,
-    link: Link,
-    a: &[u64; ARGS],
-    source: &[u8],
-    n: usize,
-    target: &mut [u8],
-    len: usize,
-) -> Turn {
-    if source.len() < n {
-        return turned(reading::halted(step), link);
-    }
-    answer_to(rt, out, step, link, a, &source[..n], target, len)
-}
-
-// A frame whose target is the first `n` bytes of a buffer.
-fn answer_to(
-    rt: &impl Print,
-    out: &mut [u8],
-    step: Step,
-    link: Link,
-    a: &[u64; ARGS],
-    source: &[u8],
-    target: &mut [u8],
-    n: usize,
-) -> Turn {
-    if target.len() < n {
-        return turned(reading::halted(step), link);
-    }
-    let told = replay_answers::hand(
-        rt,
-        out,
-        step.o,
-        link,
-        step.block.run,
-        text_words::FRAME,
-        a,
-        source,
-        &mut target[..n],
+        &source[..n],
+        &mut target[..m],
     );
-    settle(step, link, text_words::FRAME, told)
+    if let Some(left) = left {
+        block.settle(Call::Frame, left);
+    }
+    Ok(())
 }
 
-// The end of a block: a run's end state.
-fn close(rt: &impl Print, out: &mut [u8], step: Step, state: State, kept: &[u8]) -> Output {
-    let o = step.o;
-    let n = step.block.claim;
-    if !blocks::ends_with_state(step.block) {
-        return o;
+fn tell(rt: &impl Eprint, number: u64, reader: &Reader<'_>, wrong: Wrong) {
+    match wrong {
+        Wrong::At(Fault::NotHex) => {
+            text_lines::tell_about(rt, number, &reader.scan, "is not a buffer in hex.");
+        }
+        Wrong::At(fault) => {
+            text_lines::tell_most(rt, number, &reader.scan, fault, reader.most);
+        }
+        Wrong::Early(Early::State) => {
+            text_lines::tell(rt, number, "a state line must stand before this call.");
+        }
+        Wrong::Early(Early::Given) => text_lines::tell(
+            rt,
+            number,
+            "a cfg line and a profile line must stand before a call.",
+        ),
     }
-    if n == 0 {
-        return replay_answers::write_state(rt, out, o, state);
-    }
-    write_claim(rt, out, o, kept, n)
 }
 
-// The line of a state that claims more than the row keeps.
-fn write_claim(rt: &impl Print, out: &mut [u8], o: Output, kept: &[u8], n: usize) -> Output {
-    if kept.len() < n {
-        return o;
+// The first word is none that a list can have.
+fn tell_first_word(rt: &impl Eprint, number: u64, scan: &Scan<'_>) {
+    let mut names = Names::new();
+    for (word, _) in &LINES {
+        names.push(word);
     }
-    write_marked(rt, &kept[..n], out, o)
-}
-
-fn write_marked(rt: &impl Print, line: &[u8], out: &mut [u8], o: Output) -> Output {
-    let marked = o.bytes(rt, out, b"= ");
-    reading::copied(rt, line, out, marked)
-}
-
-// The end of the input, or what keeps the next line from being read.
-pub fn end(
-    rt: &(impl Print + Eprint),
-    out: &mut [u8],
-    turn: Turn,
-    kept: &[u8],
-    number: u64,
-    input: Input,
-) {
-    let step = turn.step;
-    let link = turn.link;
-    if text_lines::tell_no_line(rt, number, input) {
-        let o = close(rt, out, step, link.state, kept);
-        reading::finish(rt, out, o, number);
-    } else {
-        reading::finish(rt, out, step.o, number);
+    for call in CALLS {
+        names.push(call.name());
     }
+    text_lines::tell_choice(rt, number, scan, "a line", names.words());
 }

@@ -5,12 +5,11 @@
 
 mod blocks;
 mod lines;
-mod reading;
 
-use blocks::Turn;
+use blocks::Block;
 use std::io::Read;
 use std::rt::Runtime;
-use text_lines::Input;
+use text_lines::{Input, Output};
 
 fn main(rt: HostRuntime) {
     let mut buf = room();
@@ -19,23 +18,16 @@ fn main(rt: HostRuntime) {
     let n = text_source::count(&rt);
     if n == 0 {
         filter(&rt, &mut rt.stdin(), &mut buf, &mut out, &mut kept);
-    } else {
-        each(&rt, n, &mut buf, &mut out, &mut kept);
+    }
+    // The lists that the arguments name, one after another.
+    for i in 1..=n {
+        named(&rt, i, &mut buf, &mut out, &mut kept);
     }
 }
 
 // Room for the longest line, in a function of its own, since a proof of `main` would spell every byte.
 fn room() -> [u8; 524288] {
     [0u8; 524288]
-}
-
-// The lists that the arguments name, one after another.
-fn each(rt: &impl Runtime, n: usize, buf: &mut [u8], out: &mut [u8], kept: &mut [u8]) {
-    let mut i: usize = 0;
-    while i < n {
-        i += 1;
-        named(rt, i, buf, out, kept);
-    }
 }
 
 fn named(rt: &impl Runtime, i: usize, buf: &mut [u8], out: &mut [u8], kept: &mut [u8]) {
@@ -55,28 +47,29 @@ fn filter(
     rt: &(impl Print + Eprint),
     from: &mut impl Read,
     buf: &mut [u8],
-    out: &mut [u8],
+    room: &mut [u8],
     kept: &mut [u8],
 ) {
-    let mut input = Input::new();
-    let mut turn = Turn {
-        step: blocks::none(),
-        link: blocks::no_link(),
-    };
-    let mut number: u64 = 0;
-    while number < time::END {
-        number += 1;
-        turn.step = reading::ready(rt, turn.step, out, input.waits(buf));
-        let line = input.line(from, buf);
-        input = line.input;
-        if !line.some {
-            lines::end(rt, out, turn, kept, number, input);
-            return;
+    let mut input = Input::new(from, buf);
+    let mut out = Output::new(rt, room);
+    let mut block = Block::new(kept);
+    for number in 1..=u64::MAX {
+        // What was answered is written out before the program waits for more lines.
+        if input.waits() {
+            out.flush();
         }
-        let start = line.start;
-        let end = line.end;
-        turn = lines::respond(rt, &buf[start..end], out, turn, kept, number);
-        if turn.step.stop {
+        match input.advance() {
+            Ok(true) => {}
+            Ok(false) => {
+                block.close(&mut out);
+                return text_lines::finish(&mut out, number);
+            }
+            Err(unread) => {
+                text_lines::tell_unread(rt, number, unread);
+                return text_lines::finish(&mut out, number);
+            }
+        }
+        if !lines::respond(&mut out, &mut block, input.line(), number) {
             return;
         }
     }

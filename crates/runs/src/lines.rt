@@ -1,544 +1,251 @@
 // Lines, one after another.
-use crate::steps::Step;
-use crate::{faults, steps};
+use crate::faults;
+use crate::session::Session;
+use numbers::slot::Slot;
+use numbers::wait::Wait;
 use state::State;
-use text::Scan;
+use text::{Fault, Scan};
 use text_args::ARGS;
-use text_calls::place;
-use text_form::{NAMES, ROW, Reading};
+use text_calls::{Link, place};
+use text_form::{Named, Reader};
+use text_lines::Output;
+use text_records::Part;
+use text_words::Call;
 
-// The lines that are no calls, by their places in the words of `respond`.
-const SET: usize = 0;
+// What a line is: a call, or one that names fields, or another.
+#[derive(Clone, Copy)]
+pub enum Line {
+    Call(Call),
+    Part(Part),
+    Explain,
+    State,
+    Show,
+}
 
-const PROFILE: usize = 1;
+// The lines that are no calls, by their words.
+pub static LINES: [(&[u8], Line); 11] = [
+    (b"set", Line::Part(Part::Settings)),
+    (b"profile", Line::Part(Part::Profile)),
+    (b"explain", Line::Explain),
+    (b"state", Line::State),
+    (b"show", Line::Show),
+    (b"memory", Line::Part(Part::Memory)),
+    (b"current", Line::Part(Part::Current)),
+    (b"drained", Line::Part(Part::Drained)),
+    (b"pendi", Line::Part(Part::PendI)),
+    (b"pendr", Line::Part(Part::PendR)),
+    (b"candidate", Line::Part(Part::Candidate)),
+];
 
-const EXPLAIN: usize = 2;
+// What is wrong with a line: the field at which it stopped, or that the link there cannot take it.
+#[derive(Clone, Copy)]
+pub enum Wrong {
+    At(Fault),
+    NoLink,
+    NoCurrent,
+    Full,
+}
 
-const STATE: usize = 3;
+impl From<Fault> for Wrong {
+    fn from(fault: Fault) -> Wrong {
+        Wrong::At(fault)
+    }
+}
 
-const SHOW: usize = 4;
+impl Line {
+    // The line that the next field names.
+    fn read(scan: &mut Scan<'_>) -> Option<Line> {
+        if let Some(call) = Call::read(scan) {
+            return Some(Line::Call(call));
+        }
+        for (word, line) in &LINES {
+            if scan.accept(word) {
+                return Some(*line);
+            }
+        }
+        None
+    }
+}
 
-const MEMORY: usize = 5;
-
-const CURRENT: usize = 6;
-
-const DRAINED: usize = 7;
-
-const PENDI: usize = 8;
-
-const PENDR: usize = 9;
-
+// Reads and answers a line, and answers whether to go on. Empty lines, and those that begin with `#`,
+// are passed over. What was answered before a line that is refused is written out first.
 pub fn respond(
-    rt: &(impl Print + Eprint),
+    out: &mut Output<'_, '_, impl Print + Eprint>,
+    session: &mut Session,
     given: &[u8],
-    out: &mut [u8],
-    step: Step,
     number: u64,
-) -> Step {
-    let n = text_lines::line_end(given);
-    text_lines::progress(rt, number);
-    steps::checked(rt, read_line(rt, &given[..n], out, step, number), number)
-}
-
-fn read_line(
-    rt: &(impl Print + Eprint),
-    line: &[u8],
-    out: &mut [u8],
-    step: Step,
-    number: u64,
-) -> Step {
-    if passed(line) {
-        return step;
+) -> bool {
+    let line = &given[..text_lines::line_end(given)];
+    text_lines::progress(out.rt, number);
+    if line.is_empty() || line.starts_with(b"#") {
+        return text_lines::written(out, number);
     }
-    let word = Scan::new().word(
-        line,
-        b"set profile explain state show memory current drained pendi pendr candidate",
-    );
-    let scan = word.scan;
-    if scan.fault == text::NONE {
-        return take(rt, line, out, step, number, word.index, scan);
-    }
-    read_call(rt, line, out, step, number)
-}
-
-// Empty lines, and those that begin with `#`, are passed over.
-fn passed(line: &[u8]) -> bool {
-    if line.len() == 0 {
-        return true;
-    }
-    line[0] == b'#'
-}
-
-// A line that is no call.
-fn take(
-    rt: &(impl Print + Eprint),
-    line: &[u8],
-    out: &mut [u8],
-    step: Step,
-    number: u64,
-    index: usize,
-    scan: Scan,
-) -> Step {
-    match index {
-        SET => set(rt, line, out, step, number, scan),
-        PROFILE => profile(rt, line, out, step, number, scan),
-        EXPLAIN => explain(rt, line, out, step, number, scan),
-        STATE => read_state(rt, line, out, step, number, scan),
-        _ => take_record(rt, line, out, step, number, index, scan),
-    }
-}
-
-// A line about the state that is there.
-fn take_record(
-    rt: &(impl Print + Eprint),
-    line: &[u8],
-    out: &mut [u8],
-    step: Step,
-    number: u64,
-    index: usize,
-    scan: Scan,
-) -> Step {
-    if !step.there {
-        return faults::no_link(rt, out, step, number);
-    }
-    match index {
-        SHOW => show(rt, line, out, step, number, scan),
-        MEMORY => change(rt, line, out, step, number, text_words::MEMORY, scan),
-        CURRENT => change_current(rt, line, out, step, number, scan),
-        _ => put_record(rt, line, out, step, number, record_of(index), scan),
-    }
-}
-
-fn record_of(index: usize) -> u8 {
-    match index {
-        DRAINED => text_words::DRAIN,
-        PENDI => text_words::PENDI,
-        PENDR => text_words::PENDR,
-        _ => text_words::CANDIDATE,
-    }
-}
-
-fn set(
-    rt: &(impl Print + Eprint),
-    line: &[u8],
-    out: &[u8],
-    step: Step,
-    number: u64,
-    scan: Scan,
-) -> Step {
-    let mut v = [0u64; text_form::places::SETTINGS];
-    let mut link = step.link;
-    text_records::keep_config(&mut v, link.cfg);
-    let read = read_some(line, scan, text_words::SETTINGS, 0, &mut v);
-    if read.scan.fault != text::NONE {
-        return faults::field(rt, line, out, step, number, text_words::SETTINGS, read);
-    }
-    let cfg = text_records::config_of(&v);
-    link.cfg = cfg;
-    let mut next = step;
-    next.link = link;
-    next
-}
-
-fn profile(
-    rt: &(impl Print + Eprint),
-    line: &[u8],
-    out: &[u8],
-    step: Step,
-    number: u64,
-    scan: Scan,
-) -> Step {
-    let mut v = [0u64; text_form::places::PROFILE];
-    let mut link = step.link;
-    text_records::keep_profile(&mut v, link.profile);
-    let read = read_profile(line, scan, &mut v);
-    if read.scan.fault != text::NONE {
-        return faults::field(rt, line, out, step, number, text_words::PROFILE, read);
-    }
-    let profile = text_records::profile_of(&v);
-    link.profile = profile;
-    let mut next = step;
-    next.link = link;
-    next
-}
-
-fn read_profile(line: &[u8], scan: Scan, v: &mut [u64; text_form::places::PROFILE]) -> Reading {
-    read_some(line, scan, text_words::PROFILE, 0, v)
-}
-
-// Reads one or more named values.
-fn read_some(line: &[u8], scan: Scan, part: u8, from: usize, v: &mut [u64]) -> Reading {
-    let mut seen = [0u64; NAMES];
-    if line.len() < scan.at {
-        return Reading {
-            scan: missing(scan),
-            most: 0,
-            cut: false,
-        };
-    }
-    text_form::read_line(line, scan, part, from, v, &mut seen)
-}
-
-fn missing(scan: Scan) -> Scan {
-    Scan {
-        at: scan.at,
-        fault: text::NOT_WORD,
-    }
-}
-
-fn explain(
-    rt: &(impl Print + Eprint),
-    line: &[u8],
-    out: &[u8],
-    step: Step,
-    number: u64,
-    scan: Scan,
-) -> Step {
-    let mut v = [0u64; 1];
-    let read = text_form::read_fields(line, scan, text_words::EXPLAIN, &mut v);
-    if read.scan.fault != text::NONE {
-        return faults::value(rt, line, out, step, number, read);
-    }
-    let mut next = step;
-    next.explain = v[0] == 1;
-    next
-}
-
-// A state in the replay format stands for a link.
-fn read_state(
-    rt: &(impl Print + Eprint),
-    line: &[u8],
-    out: &[u8],
-    step: Step,
-    number: u64,
-    scan: Scan,
-) -> Step {
-    let mut v = [0u64; ROW];
-    let read = text_form::read_state(line, scan, &mut v);
-    if read.scan.fault != text::NONE {
-        return faults::value(rt, line, out, step, number, read);
-    }
-    let state = text_records::state_of(&v);
-    steps::given(step, state)
-}
-
-// The state as a line that this program and `replay` read.
-fn show(
-    rt: &(impl Print + Eprint),
-    line: &[u8],
-    out: &mut [u8],
-    step: Step,
-    number: u64,
-    scan: Scan,
-) -> Step {
-    let past = scan.end(line);
-    if past.fault != text::NONE {
-        let read = Reading {
-            scan: past,
-            most: 0,
-            cut: false,
-        };
-        return faults::value(rt, line, out, step, number, read);
-    }
-    let link = step.link;
-    let state = link.state;
-    steps::written(step, runs_telling::write_state(rt, out, step.o, state))
-}
-
-// Where a record starts in the row of a state.
-fn start_of(part: u8, held: usize) -> usize {
-    match part {
-        text_words::MEMORY => text_form::MEMORY,
-        text_words::EPOCH => text_form::CURRENT + 1,
-        text_words::DRAIN => text_form::DRAINED + 1,
-        text_words::PENDI | text_words::PENDR => text_form::CASE,
-        _ => candidate_at(held),
-    }
-}
-
-// The last of the candidates.
-fn candidate_at(held: usize) -> usize {
-    if held == 0 {
-        return ROW;
-    }
-    if 32 < held {
-        return ROW;
-    }
-    text_form::HELD + text_form::CANDIDATE * (held - 1)
-}
-
-// A current epoch that there is not has no fields to change.
-fn change_current(
-    rt: &(impl Print + Eprint),
-    line: &[u8],
-    out: &[u8],
-    step: Step,
-    number: u64,
-    scan: Scan,
-) -> Step {
-    let link = step.link;
-    let state = link.state;
-    let cur = state.cur;
-    if cur.some {
-        return change(rt, line, out, step, number, text_words::EPOCH, scan);
-    }
-    faults::stopped(rt, out, step, number, b"there is no current epoch.")
-}
-
-// `memory NAME N ..` and `current NAME N ..`: the named fields are changed.
-fn change(
-    rt: &(impl Print + Eprint),
-    line: &[u8],
-    out: &[u8],
-    step: Step,
-    number: u64,
-    part: u8,
-    scan: Scan,
-) -> Step {
-    let mut v = [0u64; ROW];
-    let link = step.link;
-    text_records::keep(&mut v, link.state);
-    let read = read_state_part(line, scan, part, &mut v);
-    if read.scan.fault != text::NONE {
-        return faults::field(rt, line, out, step, number, part, read);
-    }
-    let state = text_records::state_of(&v);
-    steps::changed(step, state)
-}
-
-fn read_state_part(line: &[u8], scan: Scan, part: u8, v: &mut [u64; ROW]) -> Reading {
-    read_some(line, scan, part, start_of(part, 0), v)
-}
-
-// `drained T ..` and the like: a record as it is made at T, with the named fields changed. What a
-// record is made like may depend on a field that is named, so the line is read twice.
-fn put_record(
-    rt: &(impl Print + Eprint),
-    line: &[u8],
-    out: &[u8],
-    step: Step,
-    number: u64,
-    part: u8,
-    scan: Scan,
-) -> Step {
-    let time = scan.number(line, time::END);
-    let past = time.scan;
-    if past.fault != text::NONE {
-        let read = Reading {
-            scan: past,
-            most: time::END,
-            cut: false,
-        };
-        return faults::field(rt, line, out, step, number, part, read);
-    }
-    if full(step, part) {
-        return faults::stopped(
-            rt,
-            out,
-            step,
-            number,
-            b"32 candidates are held, and no more fit.",
-        );
-    }
-    put_at(rt, line, out, step, number, part, past, time.value)
-}
-
-// Whether the line is a candidate for which there is no place.
-fn full(step: Step, part: u8) -> bool {
-    let link = step.link;
-    let state = link.state;
-    let cands = state.cands;
-    if part == text_words::CANDIDATE {
-        32 <= cands.len
-    } else {
-        false
-    }
-}
-
-fn put_at(
-    rt: &(impl Print + Eprint),
-    line: &[u8],
-    out: &[u8],
-    step: Step,
-    number: u64,
-    part: u8,
-    scan: Scan,
-    now: u64,
-) -> Step {
-    let mut v = [0u64; ROW];
-    let first = made(step, part, now, numbers::wait::EVIDENCE, true);
-    let read = read_record(line, scan, part, first, &mut v);
-    if read.scan.fault != text::NONE {
-        return faults::field(rt, line, out, step, number, part, read);
-    }
-    let again = made(step, part, now, wait_of(part, &v), evidenced(&v));
-    put_again(line, step, part, scan, again)
-}
-
-fn put_again(line: &[u8], step: Step, part: u8, scan: Scan, state: State) -> Step {
-    let mut v = [0u64; ROW];
-    read_record(line, scan, part, state, &mut v);
-    let named = text_records::state_of(&v);
-    steps::changed(step, named)
-}
-
-// The wait that a line names; only an own completed attempt has one.
-fn wait_of(part: u8, v: &[u64; ROW]) -> u8 {
-    if part == text_words::PENDI {
-        return text_form::byte_at(v, text_form::CASE, text_form::places::PENDI_WAIT);
-    }
-    numbers::wait::EVIDENCE
-}
-
-fn evidenced(v: &[u64; ROW]) -> bool {
-    text_form::flag_at(v, text_form::DRAINED, text_form::places::DRAIN_EVIDENCED)
-}
-
-fn read_record(line: &[u8], scan: Scan, part: u8, state: State, v: &mut [u64; ROW]) -> Reading {
-    let mut seen = [0u64; NAMES];
-    let cands = state.cands;
-    let held = cands.len;
-    text_records::keep(v, state);
-    text_form::read_line(line, scan, part, start_of(part, held), v, &mut seen)
-}
-
-fn made(step: Step, part: u8, now: u64, wait: u8, evidenced: bool) -> State {
-    let link = step.link;
-    match part {
-        text_words::DRAIN => runs_placing::drained(link, now, evidenced),
-        text_words::PENDI => runs_placing::pendi(link, now, wait),
-        text_words::PENDR => runs_placing::pendr(link, now),
-        _ => runs_placing::candidate(link, now),
-    }
-}
-
-fn read_call(
-    rt: &(impl Print + Eprint),
-    line: &[u8],
-    out: &mut [u8],
-    step: Step,
-    number: u64,
-) -> Step {
-    let word = text_words::call(line);
-    let scan = word.scan;
-    if word.index == text_words::CALLS as usize {
-        return faults::first_word(rt, line, out, step, number);
-    }
-    read_named(rt, line, out, step, number, call_of(word.index), scan)
-}
-
-fn call_of(index: usize) -> u8 {
-    if index < 256 { index as u8 } else { 255 }
-}
-
-// A call: what it does not name has its default, and a `wake` without an instant has that of the call
-// before.
-fn read_named(
-    rt: &(impl Print + Eprint),
-    line: &[u8],
-    out: &mut [u8],
-    step: Step,
-    number: u64,
-    call: u8,
-    scan: Scan,
-) -> Step {
-    let mut a = [0u64; ARGS];
-    let mut seen = [0u64; NAMES];
-    let read = read_arguments(line, scan, call, step, &mut a, &mut seen);
-    if read.scan.fault != text::NONE {
-        return faults::field(rt, line, out, step, number, call, read);
-    }
-    if !ready(step.there, call) {
-        return faults::no_link(rt, out, step, number);
-    }
-    tag_slot(&mut a, call, seen[place::FRAME_TAG], step);
-    answer(rt, out, step, number, call, &a)
-}
-
-fn read_arguments(
-    line: &[u8],
-    scan: Scan,
-    call: u8,
-    step: Step,
-    a: &mut [u64; ARGS],
-    seen: &mut [u64; NAMES],
-) -> Reading {
-    let link = step.link;
-    text_form::prepare(call, held_tag(link.state, 0), a);
-    a[place::NOW] = step.time;
-    text_form::read_line(line, scan, call, 0, a, seen)
-}
-
-// Every call but `open` needs a link.
-fn ready(there: bool, call: u8) -> bool {
-    if there {
-        true
-    } else {
-        call == text_words::OPEN
-    }
-}
-
-// A frame's tag that is not named is that of the epoch in its slot; of another call it is the current
-// epoch's, which is prepared.
-fn tag_slot(a: &mut [u64; ARGS], call: u8, named: u64, step: Step) {
-    if call == text_words::FRAME {
-        if named == 0 {
-            let link = step.link;
-            a[place::FRAME_TAG] = held_tag(link.state, a[place::FRAME_SLOT]);
+    let mut named = Named::new(Scan::new(line));
+    let Some(kind) = Line::read(&mut named.reader.scan) else {
+        text_lines::finish(out, number);
+        faults::first_word(out.rt, number, &named.reader.scan);
+        return false;
+    };
+    match take(out, session, kind, &mut named, number) {
+        Ok(()) => text_lines::written(out, number),
+        Err(wrong) => {
+            text_lines::finish(out, number);
+            faults::tell(out.rt, number, kind, &named.reader, wrong);
+            false
         }
     }
 }
 
-fn held_tag(s: State, slot: u64) -> u64 {
-    let cur = s.cur;
-    let current = cur.ep;
-    let drain = s.drain;
-    let drained = drain.ep;
-    match slot {
-        0 => current.tag,
-        1 => pending_tag(s),
-        _ => drained.tag,
-    }
-}
-
-fn pending_tag(s: State) -> u64 {
-    let cycle = s.cycle;
-    let pendi = cycle.pendi;
-    let pendr = cycle.pendr;
-    let own = pendi.ep;
-    let peers = pendr.ep;
-    if cycle.kind == numbers::cycle::PENDI {
-        return own.tag;
-    }
-    peers.tag
-}
-
-fn answer(
-    rt: &(impl Print + Eprint),
-    out: &mut [u8],
-    step: Step,
+fn take(
+    out: &mut Output<'_, '_, impl Print + Eprint>,
+    session: &mut Session,
+    line: Line,
+    named: &mut Named<'_>,
     number: u64,
-    call: u8,
-    a: &[u64; ARGS],
-) -> Step {
-    let next = counted(rt, step, number, call, a[place::NOW]);
-    let link = next.link;
-    let told = runs_telling::answer(rt, out, next.o, link, steps::head(next), call, a);
-    steps::told(next, told)
+) -> Result<(), Wrong> {
+    match line {
+        Line::Call(call) => call_line(out, session, call, named, number),
+        Line::Part(Part::Settings) => set(session, named),
+        Line::Part(Part::Profile) => profile(session, named),
+        Line::Part(part) => change(session, part, named),
+        Line::Explain => explain(session, named),
+        Line::State => given(session, named),
+        Line::Show => show(out, session, named),
+    }
 }
 
-// Counts the call, and tells of an instant that lies before an earlier one. An `open` begins anew.
-fn counted(rt: &impl Eprint, step: Step, number: u64, call: u8, now: u64) -> Step {
-    let mut next = step;
-    next.calls = time::sat_add(step.calls, 1);
-    next.time = now;
-    if call == text_words::OPEN {
-        next.latest = now;
-        return next;
+fn set(session: &mut Session, named: &mut Named<'_>) -> Result<(), Wrong> {
+    some(named)?;
+    text_records::name_record(named, &mut session.cfg)?;
+    Ok(())
+}
+
+fn profile(session: &mut Session, named: &mut Named<'_>) -> Result<(), Wrong> {
+    some(named)?;
+    text_records::name_record(named, &mut session.profile)?;
+    Ok(())
+}
+
+// Sees to it that the line names anything.
+fn some(named: &Named<'_>) -> Result<(), Fault> {
+    if text_form::ended(&named.reader.scan) {
+        return Err(Fault::NotWord);
     }
-    if now < step.latest {
-        text_lines::tell_early(rt, number, now, step.latest);
+    Ok(())
+}
+
+fn explain(session: &mut Session, named: &mut Named<'_>) -> Result<(), Wrong> {
+    let n = named.reader.number(1)?;
+    named.reader.scan.end()?;
+    session.explain = n == 1;
+    Ok(())
+}
+
+// A state in the replay format stands for a link, whose instants begin anew.
+fn given(session: &mut Session, named: &mut Named<'_>) -> Result<(), Wrong> {
+    named.reader = Reader::by_place(named.reader.scan);
+    let mut state = text_records::blank_state();
+    text_records::read_state(&mut named.reader, &mut state)?;
+    session.state = Some(state);
+    session.latest = 0;
+    Ok(())
+}
+
+// The state as a line that this program and `replay` read.
+fn show(
+    out: &mut Output<'_, '_, impl Print>,
+    session: &Session,
+    named: &Named<'_>,
+) -> Result<(), Wrong> {
+    let Some(state) = &session.state else {
+        return Err(Wrong::NoLink);
+    };
+    named.reader.scan.end()?;
+    runs_telling::write_state(out, state);
+    Ok(())
+}
+
+// A line about the state that is there: `memory NAME N ..` and `current NAME N ..` change the named
+// fields. A current epoch that there is not has no fields to change.
+fn change(session: &mut Session, part: Part, named: &mut Named<'_>) -> Result<(), Wrong> {
+    let link = session.link();
+    let Some(state) = &mut session.state else {
+        return Err(Wrong::NoLink);
+    };
+    match part {
+        Part::Memory => {}
+        Part::Current if state.cur.some => {}
+        Part::Current => return Err(Wrong::NoCurrent),
+        _ => {
+            *state = placed(&link, part, named)?;
+            return Ok(());
+        }
     }
-    next.latest = time::max(step.latest, now);
-    next
+    some(named)?;
+    text_records::name_part(named, part, state)?;
+    Ok(())
+}
+
+// `drained T ..` and the like: a record as it is made at T, with the named fields changed. What a
+// record is made like may depend on a field that is named, so the line is read twice.
+fn placed(link: &Link, part: Part, named: &mut Named<'_>) -> Result<State, Wrong> {
+    let now = named.reader.number(time::END)?;
+    if part == Part::Candidate && 32 <= link.state.cands.len {
+        return Err(Wrong::Full);
+    }
+    let start = *named;
+    let mut first = made(link, part, now, Wait::Evidence, true);
+    text_records::name_part(named, part, &mut first)?;
+    *named = start;
+    let wait = first.cycle.pendi.waits();
+    let mut again = made(link, part, now, wait, first.drain.evidenced);
+    text_records::name_part(named, part, &mut again)?;
+    Ok(again)
+}
+
+fn made(link: &Link, part: Part, now: u64, wait: Wait, evidenced: bool) -> State {
+    match part {
+        Part::Drained => runs_placing::drained(link, now, evidenced),
+        Part::PendI => runs_placing::pendi(link, now, wait),
+        Part::PendR => runs_placing::pendr(link, now),
+        _ => runs_placing::candidate(link, now),
+    }
+}
+
+// A call: what it does not name has its default, and a `wake` without an instant has that of the call
+// before. Every call but `open` needs a link. A frame's tag that is not named is that of the epoch in its
+// slot; of another call it is the current epoch's, which is prepared.
+fn call_line(
+    out: &mut Output<'_, '_, impl Print + Eprint>,
+    session: &mut Session,
+    call: Call,
+    named: &mut Named<'_>,
+    number: u64,
+) -> Result<(), Wrong> {
+    let mut a = [0u64; ARGS];
+    text_form::prepare(call, session.tag(Slot::Current), &mut a);
+    a[place::NOW] = session.time;
+    text_form::read_call(named, call, &mut a)?;
+    if session.state.is_none() && call != Call::Open {
+        return Err(Wrong::NoLink);
+    }
+    if call == Call::Frame && !named.seen[place::FRAME_TAG] {
+        a[place::FRAME_TAG] = session.tag(slot_of(a[place::FRAME_SLOT]));
+    }
+    let now = a[place::NOW];
+    if let Some(latest) = session.count(call, now) {
+        text_lines::tell_early(out.rt, number, now, latest);
+    }
+    let left = runs_telling::answer(out, session.link(), session.head(), call, &a);
+    if left.is_some() {
+        session.state = left;
+    }
+    Ok(())
+}
+
+fn slot_of(n: u64) -> Slot {
+    u8::try_from(n)
+        .ok()
+        .and_then(Slot::of)
+        .unwrap_or(Slot::Previous)
 }

@@ -5,39 +5,33 @@
 
 mod faults;
 mod lines;
-mod steps;
+mod session;
 
+use session::Session;
 use std::io::Read;
 use std::rt::Runtime;
-use text_lines::Input;
+use text_lines::{Input, Output};
 
 fn main(rt: HostRuntime) {
     let mut buf = io::large_buffer();
-    let mut out = io::large_buffer();
+    let mut room = io::large_buffer();
     let n = text_source::count(&rt);
     if n == 0 {
-        filter(&rt, &mut rt.stdin(), &mut buf, &mut out);
-    } else {
-        each(&rt, n, &mut buf, &mut out);
+        filter(&rt, &mut rt.stdin(), &mut buf, &mut room);
+    }
+    // The lists that the arguments name, one after another.
+    for i in 1..=n {
+        named(&rt, i, &mut buf, &mut room);
     }
 }
 
-// The lists that the arguments name, one after another.
-fn each(rt: &impl Runtime, n: usize, buf: &mut [u8], out: &mut [u8]) {
-    let mut i: usize = 0;
-    while i < n {
-        i += 1;
-        named(rt, i, buf, out);
-    }
-}
-
-fn named(rt: &impl Runtime, i: usize, buf: &mut [u8], out: &mut [u8]) {
+fn named(rt: &impl Runtime, i: usize, buf: &mut [u8], room: &mut [u8]) {
     if text_source::is_help(rt, i) {
         help(rt);
         return;
     }
     if let Some(mut source) = text_source::open(rt, i) {
-        filter(rt, &mut source, buf, out);
+        filter(rt, &mut source, buf, room);
         text_source::close(source);
     }
 }
@@ -63,23 +57,25 @@ docs/RUNS.md has every name, docs/EVENTS.md what each event means, docs/SUPPORT.
     );
 }
 
-fn filter(rt: &(impl Print + Eprint), from: &mut impl Read, buf: &mut [u8], out: &mut [u8]) {
-    let mut input = Input::new();
-    let mut step = steps::begin(rt, out);
-    let mut number: u64 = 0;
-    while number < time::END {
-        number += 1;
-        step = steps::ready(rt, step, out, input.waits(buf));
-        let line = input.line(from, buf);
-        input = line.input;
-        if !line.some {
-            steps::end(rt, out, step, number, input);
-            return;
+fn filter(rt: &(impl Print + Eprint), from: &mut impl Read, buf: &mut [u8], room: &mut [u8]) {
+    let mut input = Input::new(from, buf);
+    let mut out = Output::new(rt, room);
+    let mut session = Session::new();
+    out.bytes(b"call instant event a b\n");
+    for number in 1..=u64::MAX {
+        // What was answered is written out before the program waits for more lines.
+        if input.waits() {
+            out.flush();
         }
-        let start = line.start;
-        let end = line.end;
-        step = lines::respond(rt, &buf[start..end], out, step, number);
-        if step.stop {
+        match input.advance() {
+            Ok(true) => {}
+            Ok(false) => return text_lines::finish(&mut out, number),
+            Err(unread) => {
+                text_lines::finish(&mut out, number);
+                return text_lines::tell_unread(rt, number, unread);
+            }
+        }
+        if !lines::respond(&mut out, &mut session, input.line(), number) {
             return;
         }
     }

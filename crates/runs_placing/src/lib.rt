@@ -1,174 +1,151 @@
 // Records of a state as the published module makes them at an instant, for lists that begin in the
-// middle of a link's life. No public function has a `requires`.
+// middle of a link's life. No function has a `requires`.
 #![tactic(auto)]
 
 use candidates::Candidates;
 use cycle::{PendI, PendR};
 use epoch::{Drain, Epoch, Final, Ids, Index, MayLadder};
 use ladder::{Ladder, Schedule};
+use numbers::cycle::Stage;
+use numbers::wait::Wait;
 use settings::Config;
 use state::State;
 use text_calls::Link;
 use time::When;
 
+const EMPTY: Ladder = Ladder {
+    origin: 0,
+    sched: Schedule::EMPTY,
+    next: 0,
+};
+
+const NO_MESSAGE: Final = Final {
+    some: false,
+    msg: 0,
+    ladder: EMPTY,
+};
+
+const NO_LADDER: MayLadder = MayLadder {
+    some: false,
+    ladder: EMPTY,
+};
+
 // An own attempt that completed at `now`, under a wait.
-pub fn pendi(link: Link, now: u64, wait: u8) -> State {
-    let ep = own_epoch(link, now, wait);
-    let fin = final_message(link, now, wait);
-    let p = PendI {
-        ep: ep,
-        wait: wait,
+pub fn pendi(link: &Link, now: u64, wait: Wait) -> State {
+    let mut next = link.state;
+    next.cycle.kind = Stage::PendI.number();
+    next.cycle.pendi = PendI {
+        ep: own_epoch(&link.state, now, wait),
+        wait: wait.number(),
         deadline: wait_end(link, now, wait),
         restart: false,
-        fin: fin,
-        probes: probes(link, now, wait),
-        probed: when(wait == numbers::wait::EVIDENCE, now),
+        fin: final_message(link, now, wait),
+        probes: probes(&link.cfg, now, wait),
+        probed: by_evidence(wait, now),
         stayed: false,
         reverted: false,
     };
-    let state = link.state;
-    let mut cycle = state.cycle;
-    cycle.kind = numbers::cycle::PENDI;
-    cycle.pendi = p;
-    let mut next = state;
-    next.cycle = cycle;
     next
 }
 
+// A time that only an epoch has which waits for evidence.
+fn by_evidence(wait: Wait, at: u64) -> When {
+    (wait == Wait::Evidence).then_some(at).into()
+}
+
 // The epoch that an own attempt completed: the key bit is the other one than the peer's.
-fn own_epoch(link: Link, now: u64, wait: u8) -> Epoch {
-    let state = link.state;
-    let mem = state.mem;
-    let cur = state.cur;
-    let ep = cur.ep;
-    let peer = mem.peer_k;
+fn own_epoch(state: &State, now: u64, wait: Wait) -> Epoch {
+    let peer = state.mem.peer_k;
     let mut own = fresh(state, now);
-    own.k = if peer.some { !peer.on } else { !ep.k };
-    own.base = when(wait == numbers::wait::EVIDENCE, now);
-    own.route = when(wait == numbers::wait::EVIDENCE, 0);
+    own.k = if peer.some { !peer.on } else { !state.cur.ep.k };
+    own.base = by_evidence(wait, now);
+    own.route = by_evidence(wait, 0);
     own
 }
 
 // When the wait ends: at once, with the confirmation window, or after the delay.
-fn wait_end(link: Link, now: u64, wait: u8) -> u64 {
-    let cfg = link.cfg;
-    let state = link.state;
-    let mem = state.mem;
+fn wait_end(link: &Link, now: u64, wait: Wait) -> u64 {
     match wait {
-        numbers::wait::HELD => now,
-        numbers::wait::EVIDENCE => time::later(now, params::confirm(cfg)),
-        _ => time::later(now, time::max(cfg.delay, or_zero(mem.hs_rtt))),
+        Wait::Held => now,
+        Wait::Evidence => time::later(now, params::confirm(link.cfg)),
+        Wait::Delay => {
+            let rtt = link.state.mem.hs_rtt.get().unwrap_or(0);
+            time::later(now, link.cfg.delay.max(rtt))
+        }
     }
 }
 
-fn or_zero(w: When) -> u64 {
-    if w.some { w.at } else { 0 }
-}
-
 // The third message, which three messages have: resent only where the cutover waits a fixed delay.
-fn final_message(link: Link, now: u64, wait: u8) -> Final {
-    let cfg = link.cfg;
-    let profile = link.profile;
-    let sched = resends(cfg, wait);
+fn final_message(link: &Link, now: u64, wait: Wait) -> Final {
+    let sched = match wait {
+        Wait::Delay => params::delayed(link.cfg).sched,
+        _ => Schedule::EMPTY,
+    };
     Final {
-        some: third(profile.messages, wait),
+        some: link.profile.messages == 3 && wait != Wait::Held,
         msg: 0,
         ladder: Ladder::new(now, sched),
     }
 }
 
-fn third(messages: u64, wait: u8) -> bool {
-    if messages == 3 {
-        wait != numbers::wait::HELD
-    } else {
-        false
-    }
-}
-
-fn resends(cfg: Config, wait: u8) -> Schedule {
-    if wait == numbers::wait::DELAY {
-        let made = params::delayed(cfg);
-        return made.sched;
-    }
-    Schedule::EMPTY
-}
-
-fn probes(link: Link, now: u64, wait: u8) -> MayLadder {
-    let cfg = link.cfg;
-    let made = params::probes(cfg);
-    let sched = made.sched;
+fn probes(cfg: &Config, now: u64, wait: Wait) -> MayLadder {
     MayLadder {
-        some: wait == numbers::wait::EVIDENCE,
-        ladder: Ladder::new(now, sched),
+        some: wait == Wait::Evidence,
+        ladder: Ladder::new(now, params::probes(*cfg).sched),
     }
 }
 
 // A peer's attempt that was answered at `now`. With two messages the answer is held, to be sent again.
-pub fn pendr(link: Link, now: u64) -> State {
-    let state = link.state;
-    let cfg = link.cfg;
-    let profile = link.profile;
-    let mut ep = fresh(state, now);
+pub fn pendr(link: &Link, now: u64) -> State {
+    let mut ep = fresh(&link.state, now);
     ep.responder = true;
-    let p = PendR {
-        ep: ep,
-        deadline: time::later(now, cfg.hold),
+    let mut next = link.state;
+    next.cycle.kind = Stage::PendR.number();
+    next.cycle.pendr = PendR {
+        ep,
+        deadline: time::later(now, link.cfg.hold),
         restart: false,
-        answer: when(profile.messages == 2, 0),
+        answer: (link.profile.messages == 2).then_some(0).into(),
     };
-    let mut cycle = state.cycle;
-    cycle.kind = numbers::cycle::PENDR;
-    cycle.pendr = p;
-    let mut next = state;
-    next.cycle = cycle;
     next
 }
 
 // The epoch before the current one, from which the link cut over at `now`. A cutover drops what the old
 // epoch would have sent again.
-pub fn drained(link: Link, now: u64, evidenced: bool) -> State {
-    let state = link.state;
-    let cfg = link.cfg;
-    let cur = state.cur;
-    let mut ep = cur.ep;
-    let fin = no_message();
-    let elicit = no_ladder();
+pub fn drained(link: &Link, now: u64, evidenced: bool) -> State {
+    let cfg = &link.cfg;
+    let mut ep = link.state.cur.ep;
     ep.tag = before(ep.tag);
     ep.k = !ep.k;
-    ep.fin = fin;
-    ep.elicit = elicit;
-    let d = Drain {
+    ep.fin = NO_MESSAGE;
+    ep.elicit = NO_LADDER;
+    let mut next = link.state;
+    next.drain = Drain {
         some: true,
-        ep: ep,
-        deadline: time::later(now, drain_time(cfg, evidenced)),
-        evidenced: evidenced,
+        ep,
+        deadline: time::later(now, if evidenced { cfg.drain } else { cfg.retention }),
+        evidenced,
     };
-    let mut next = state;
-    next.drain = d;
     next
 }
 
 // A tag that is not the current one.
 fn before(tag: u64) -> u64 {
-    if tag == 0 { 1 } else { tag - 1 }
-}
-
-fn drain_time(cfg: Config, evidenced: bool) -> u64 {
-    if evidenced { cfg.drain } else { cfg.retention }
+    tag.checked_sub(1).unwrap_or(1)
 }
 
 // An epoch that a handshake made at `now`, on the current one's transport.
-fn fresh(state: State, now: u64) -> Epoch {
-    let cur = state.cur;
-    let ep = cur.ep;
-    let ids = ids_on(ep);
-    let fin = no_message();
-    let elicit = no_ladder();
+fn fresh(state: &State, now: u64) -> Epoch {
+    let ep = &state.cur.ep;
     Epoch {
-        tag: time::sat_add(ep.tag, 1),
+        tag: ep.tag.saturating_add(1),
         session: 0,
         sent: 0,
-        ids: ids,
+        ids: Ids {
+            lease: Index::NONE,
+            theirs: Index::NONE,
+            transport: ep.ids.transport,
+        },
         k: false,
         responder: false,
         base: When::NONE,
@@ -180,75 +157,33 @@ fn fresh(state: State, now: u64) -> Epoch {
         heard: When::NONE,
         moved: When::NONE,
         assumed: false,
-        fin: fin,
-        elicit: elicit,
+        fin: NO_MESSAGE,
+        elicit: NO_LADDER,
         prompted: When::NONE,
     }
 }
 
-fn no_message() -> Final {
-    let empty = Ladder::new(0, Schedule::EMPTY);
-    Final {
-        some: false,
-        msg: 0,
-        ladder: empty,
-    }
-}
-
-fn no_ladder() -> MayLadder {
-    let empty = Ladder::new(0, Schedule::EMPTY);
-    MayLadder {
-        some: false,
-        ladder: empty,
-    }
-}
-
-fn ids_on(ep: Epoch) -> Ids {
-    let ids = ep.ids;
-    let none = Index {
-        some: false,
-        index: 0,
-    };
-    Ids {
-        lease: none,
-        theirs: none,
-        transport: ids.transport,
-    }
-}
-
-fn when(some: bool, at: u64) -> When {
-    When {
-        some: some,
-        at: if some { at } else { 0 },
-    }
-}
-
 // One more candidate, whose setup message came at `now`. Where 32 are held nothing is added.
-pub fn candidate(link: Link, now: u64) -> State {
-    let state = link.state;
-    let cfg = link.cfg;
-    let mut next = state;
-    next.cands = added(state.cands, now, time::later(now, cfg.ttl));
+pub fn candidate(link: &Link, now: u64) -> State {
+    let mut next = link.state;
+    add(&mut next.cands, now, time::later(now, link.cfg.ttl));
     next
 }
 
-fn added(c: Candidates, now: u64, deadline: u64) -> Candidates {
+fn add(c: &mut Candidates, now: u64, deadline: u64) {
     let n = c.len;
-    if 32 <= n {
-        return c;
+    if n < 32 {
+        c.hs[n] = 0;
+        c.msg1[n] = 0;
+        c.ack[n] = 0;
+        c.carrier[n] = 0;
+        c.route[n] = 0;
+        c.born[n] = now;
+        c.deadline[n] = deadline;
+        c.bounded[n] = 0;
+        c.bound[n] = 0;
+        c.seq[n] = c.next;
+        c.len = n + 1;
+        c.next = c.next.saturating_add(1);
     }
-    let mut next = c;
-    next.hs[n] = 0;
-    next.msg1[n] = 0;
-    next.ack[n] = 0;
-    next.carrier[n] = 0;
-    next.route[n] = 0;
-    next.born[n] = now;
-    next.deadline[n] = deadline;
-    next.bounded[n] = 0;
-    next.bound[n] = 0;
-    next.seq[n] = c.next;
-    next.len = n + 1;
-    next.next = time::sat_add(c.next, 1);
-    next
 }

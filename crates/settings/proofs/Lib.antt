@@ -1,4 +1,3 @@
 mod Places
-mod Sums
 pub mod Accepted
 pub mod Worked

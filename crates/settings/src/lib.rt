@@ -5,6 +5,7 @@
 
 ghost use Rattle.std.specs.Prelude.{◌≡◌, ◌+◌, leb, ltb, take, drop};
 ghost use Rattle.settings.specs.Settings.{fmp as fmp_of, fsp as fsp_of, failing, first_at, place_of};
+ghost use Rattle.settings.specs.Checks.{check_place, told_place};
 
 // The settings of a link. Durations are whole milliseconds.
 #[repr(C)]
@@ -94,11 +95,66 @@ impl Config {
     pub fn fsp() -> Config
         ensures { result ≡ fsp_of }
     {
-        let mut cfg = Config::fmp();
-        cfg.floor_link = 0;
-        cfg.floor_session = 0;
-        cfg.floor_cutover = 10000;
-        cfg
+        Config {
+            floor_link: 0,
+            floor_session: 0,
+            floor_cutover: 10000,
+            ..Config::fmp()
+        }
+    }
+}
+
+// The checks that refuse settings, in file order.
+#[derive(Clone, Copy, PartialEq, Eq)]
+pub enum Check {
+    // The message trigger is 0, or past the soft limit.
+    NoMessages,
+    MessagesPastSoft,
+    // The time trigger is not above the jitter, is below the jitter plus the link-age floor, or is longer
+    // than 2^32 - 1 seconds.
+    AfterWithinJitter,
+    AfterBelowFloor,
+    AfterTooLong,
+    // A duration that must not be 0 is 0.
+    NoCheck,
+    NoHold,
+    NoRevert,
+    NoTtl,
+    NoSilence,
+    // The handshake does not exceed one check by 3 seconds.
+    HandshakeTooShort,
+    // The drain window is not above 2 seconds.
+    DrainTooShort,
+    // The drain's ceiling is below the drain window.
+    RetentionBelowDrain,
+    // The pending hold is not above the handshake plus one check.
+    HoldTooShort,
+    // The soft limit is not below the hard one.
+    SoftPastHard,
+}
+
+impl Check {
+    // Its place in file order, from 1.
+    pub fn place(self) -> u8
+        ensures { result ≡ check_place self }
+    {
+        match self {
+            Check::NoMessages => 1,
+            Check::MessagesPastSoft => 2,
+            Check::AfterWithinJitter => 3,
+            Check::AfterBelowFloor => 4,
+            Check::AfterTooLong => 5,
+            Check::NoCheck => 6,
+            Check::NoHold => 7,
+            Check::NoRevert => 8,
+            Check::NoTtl => 9,
+            Check::NoSilence => 10,
+            Check::HandshakeTooShort => 11,
+            Check::DrainTooShort => 12,
+            Check::RetentionBelowDrain => 13,
+            Check::HoldTooShort => 14,
+            Check::SoftPastHard => 15,
+        }
     }
 }
 
@@ -106,94 +162,101 @@ impl Config {
 fn below_sum(x: u64, a: u64, b: u64) -> bool
     ensures { result ≡ ltb x (a + b) }
 {
-    if x < a { true } else { x - a < b }
+    x < a || x - a < b
 }
 
 // Whether `x <= a + b`, with no sum.
 fn upto_sum(x: u64, a: u64, b: u64) -> bool
     ensures { result ≡ leb x (a + b) }
 {
-    if x < a { true } else { x - a <= b }
+    x < a || x - a <= b
 }
 
 // Places 1 to 5: the triggers.
-fn triggers(cfg: Config) -> u8
-    ensures { result ≡ first_at 1 (take 5 (failing cfg)) }
+#[tactic(auto, unfolding(crate::specs::Settings::failing, crate::specs::Settings::first_at))]
+fn triggers(cfg: Config) -> Result<(), Check>
+    ensures { told_place result ≡ first_at 1 (take 5 (failing cfg)) }
 {
     let jitter = (cfg.jitter as u64) * 1000;
     if cfg.messages == 0 {
-        return 1;
+        return Err(Check::NoMessages);
     }
     if cfg.soft < cfg.messages {
-        return 2;
+        return Err(Check::MessagesPastSoft);
     }
     if cfg.after <= jitter {
-        return 3;
+        return Err(Check::AfterWithinJitter);
     }
     if below_sum(cfg.after, jitter, cfg.link_age) {
-        return 4;
+        return Err(Check::AfterBelowFloor);
     }
     if 4294967295000 < cfg.after {
-        return 5;
+        return Err(Check::AfterTooLong);
     }
-    0
+    Ok(())
 }
 
 // Places 6 to 10: durations that must not be 0.
-fn positives(cfg: Config) -> u8
-    ensures { result ≡ first_at 6 (take 5 (drop 5 (failing cfg))) }
+#[tactic(auto, unfolding(crate::specs::Settings::failing, crate::specs::Settings::first_at))]
+fn positives(cfg: Config) -> Result<(), Check>
+    ensures { told_place result ≡ first_at 6 (take 5 (drop 5 (failing cfg))) }
 {
     if cfg.check == 0 {
-        return 6;
+        return Err(Check::NoCheck);
     }
     if cfg.hold == 0 {
-        return 7;
+        return Err(Check::NoHold);
     }
     if cfg.revert == 0 {
-        return 8;
+        return Err(Check::NoRevert);
     }
     if cfg.ttl == 0 {
-        return 9;
+        return Err(Check::NoTtl);
     }
     if cfg.silence == 0 {
-        return 10;
+        return Err(Check::NoSilence);
     }
-    0
+    Ok(())
 }
 
 // Places 11 to 15: windows that must hold one another, and the two limits of the send counter.
-fn windows(cfg: Config) -> u8
-    ensures { result ≡ first_at 11 (drop 10 (failing cfg)) }
+#[tactic(auto, unfolding(crate::specs::Settings::failing, crate::specs::Settings::first_at))]
+fn windows(cfg: Config) -> Result<(), Check>
+    ensures { told_place result ≡ first_at 11 (drop 10 (failing cfg)) }
 {
     if below_sum(cfg.handshake, cfg.check, 3000) {
-        return 11;
+        return Err(Check::HandshakeTooShort);
     }
     if cfg.drain <= 2000 {
-        return 12;
+        return Err(Check::DrainTooShort);
     }
     if cfg.retention < cfg.drain {
-        return 13;
+        return Err(Check::RetentionBelowDrain);
     }
     if upto_sum(cfg.hold, cfg.handshake, cfg.check) {
-        return 14;
+        return Err(Check::HoldTooShort);
     }
     if cfg.hard <= cfg.soft {
-        return 15;
+        return Err(Check::SoftPastHard);
     }
-    0
+    Ok(())
+}
+
+// Ok where no check refuses `cfg`, else the first that does.
+pub fn accept(cfg: Config) -> Result<(), Check>
+    ensures { told_place result ≡ place_of cfg }
+{
+    triggers(cfg)?;
+    positives(cfg)?;
+    windows(cfg)
 }
 
 // The place of the first check that refuses `cfg`, from 1; 0 where it is accepted.
 pub fn place(cfg: Config) -> u8
     ensures { result ≡ place_of cfg }
 {
-    let first = triggers(cfg);
-    if first != 0 {
-        return first;
+    match accept(cfg) {
+        Ok(()) => 0,
+        Err(refused) => refused.place(),
     }
-    let second = positives(cfg);
-    if second != 0 {
-        return second;
-    }
-    windows(cfg)
 }

@@ -1,4 +1,4 @@
 mod Signs
-mod Waits
+pub mod Waits
 pub mod Laws
 pub mod Worked

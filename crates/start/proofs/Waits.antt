@@ -22,6 +22,10 @@ two : (x y : ℕ) → most x y ≡ latest_in (x ∷ y ∷ [])
 unfolding latest_in
 two x y = simp most-max (omega arith)
 
+pub told-none : (a b : Bool) → b ≡ false → (a && b) ≡ false
+told-none true b e = e
+told-none false b e = refl
+
 module _ (m : Memory) (cfg : Config) (started : ℕ) where
   pub gate_three : m.last_cutover.some ≡ true → most (later_of m.last_cutover.at cfg.floor_cutover) (most (later_of m.link_since cfg.floor_link) (later_of started cfg.floor_session)) ≡ latest_in (floor_ends m cfg started)
   unfolding floor_ends
@@ -79,3 +83,14 @@ module _ (m : Memory) (cfg : Config) (started : ℕ) where
     unfolding at_of
     silent-last silence g d b t q soft s told hg hd hb ht hq =
         simp (hq, ht, hb, hd, hg, s, told, damped_last, backed_last, silence-last, scheduled_last soft)
+
+    -- and where no start by silence is waited for
+    pub scheduled-alone :
+        (silence : Bool) (g d b t : ℕ)
+        → soft_met cfg sent ≡ false → (silence && m.sent_data) ≡ false
+        → g ≡ latest_in (floor_ends m cfg started) → d ≡ latest_of m.damp g → b ≡ latest_of m.backoff d
+        → t ≡ scheduled_after m cfg started sent d b
+        → t ≡ at_of m cfg started sent silence
+    unfolding at_of
+    scheduled-alone silence g d b t soft told hg hd hb ht =
+        simp (ht, hb, hd, hg, told, damped_last, backed_last, scheduled_last soft)

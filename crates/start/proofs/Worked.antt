@@ -1,5 +1,5 @@
 -- Document 01's own examples of the trigger and of the silence interval, by computing.
-use Rattle.std.specs.Prelude.{◌-◌, refl}
+use Rattle.std.specs.Prelude.{refl}
 use Rattle.time.specs.Time.{factor_of, backoff_of, least, sat_add, later_of}
 use Rattle.start.specs.Start.{trigger_of}
 use Rattle.start.specs.Worked.{Examples}

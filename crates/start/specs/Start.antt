@@ -1,10 +1,12 @@
 -- When an own rekey starts, and the earliest instant at which one can.
-use Rattle.std.specs.Prelude.{ℕ, ◌+◌, ◌-◌, ◌*◌, Bool, false, not, ◌&&◌, ◌||◌, List, [], ◌∷◌, ◌++◌, leb, ltb, ℤ, pos, negsuc}
+use Rattle.std.specs.Prelude.{ℕ, ◌+◌, ◌-◌, ◌*◌, Bool, false, not, ◌&&◌, ◌||◌, List, [], ◌∷◌, ◌++◌, leb, ltb, ℤ, pos, negsuc, Option, Some, None}
 use Rattle.time.specs.declared.When.{When}
 use Rattle.time.specs.Pick.{pick}
 use Rattle.time.specs.Time.{none, at, later_of, sat_add, least, most, backoff_of}
 use Rattle.settings.specs.declared.Config.{Config}
+use Rattle.numbers.specs.declared.start.Start.{Start}
 use Rattle.numbers.specs.Numbers.{start_scheduled, start_silence}
+use Rattle.numbers.specs.Cases.{start_no}
 use Rattle.cycle.specs.Kind.{is_idle}
 use Rattle.state.specs.Parts.{listed}
 use Rattle.state.specs.declared.Memory.{Memory}
@@ -150,3 +152,10 @@ start_at s cfg p = pick (may_start s) (at (at_of s.mem cfg s.cur.ep.started s.cu
 -- "A start is called for while `start_kind` yields at the instant and the sent count is below `hard`"
 unfoldable pub called_for : State → Config → Profile → ℕ → Bool
 called_for s cfg p now = (start_kind s cfg p now).some && ltb s.cur.ep.sent cfg.hard
+
+-- ---- what the functions promise
+
+-- the kind of a start, where there is one
+abbrev pub kind_given : Option Start → When
+kind_given None = none
+kind_given (Some k) = at (start_no k)

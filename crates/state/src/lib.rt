@@ -1,4 +1,5 @@
-// The link's state, and what a call is given beside it (machine.rs).
+// The link's state, and what a call is given beside it (machine.rs). Each record may be held by Rust, so
+// it is laid out as C does, and what may be absent is a flag beside the value.
 #![tactic(auto)]
 
 use candidates::Candidates;

@@ -1,2 +1,1 @@
 mod Laws
-mod Signs

@@ -17,9 +17,6 @@ pub const ARGS: usize = 16;
 // What 0 is in a place that holds a number with a sign.
 pub const ZERO: u64 = 2147483648;
 
-// The largest number of 32 bits.
-const WORD: u32 = 4294967295;
-
 // The number at `i`.
 pub fn number(a: &[u64; ARGS], i: usize) -> u64
     ensures { result ≡ number_at a.now i }
@@ -41,12 +38,11 @@ pub fn flag(a: &[u64; ARGS], i: usize) -> bool
     number(a, i) == 1
 }
 
-#[tactic(auto, using(time::specs::Pick::picks), unfolding(crate::specs::Args::byte_at, time::specs::Time::least))]
+#[tactic(auto, using(time::proofs::Std::std_words, time::specs::Pick::picks), unfolding(crate::specs::Args::byte_at, time::specs::Time::least))]
 pub fn byte(a: &[u64; ARGS], i: usize) -> u8
     ensures { result ≡ byte_at a.now i }
 {
-    let n = number(a, i);
-    if n <= 255 { n as u8 } else { 255 }
+    u8::try_from(number(a, i)).unwrap_or(255)
 }
 
 #[tactic(auto, unfolding(crate::specs::Args::word_at))]
@@ -60,8 +56,7 @@ pub fn word(a: &[u64; ARGS], i: usize) -> u32
 pub fn signed(a: &[u64; ARGS], i: usize) -> i32
     ensures { result ≡ signed_at a.now i }
 {
-    let n = word(a, i);
-    (n as i64 - ZERO as i64) as i32
+    (i64::from(word(a, i)) - ZERO as i64) as i32
 }
 
 // The index whose flag is at `i` and whose number is behind it.
@@ -80,11 +75,9 @@ pub fn index(a: &[u64; ARGS], i: usize) -> Index
 pub fn when(a: &[u64; ARGS], i: usize) -> When
     ensures { result ≡ when_at a.now i }
 {
-    let there = flag(a, i);
-    When {
-        some: there,
-        at: behind(a, i),
-    }
+    let some = flag(a, i);
+    let at = behind(a, i);
+    When { some, at }
 }
 
 // The extra of a poll. One below 0 becomes the largest: both are outside of every setting.
@@ -92,18 +85,14 @@ pub fn when(a: &[u64; ARGS], i: usize) -> When
 pub fn extra(a: &[u64; ARGS], i: usize) -> u32
     ensures { result ≡ extra_at a.now i }
 {
-    let n = number(a, i);
-    if n < ZERO {
-        return WORD;
-    }
-    narrow(n - ZERO)
+    number(a, i).checked_sub(ZERO).map_or(u32::MAX, narrow)
 }
 
 #[tactic(auto, using(std::proofs::lemmas::Grind::common_steps), unfolding(crate::specs::Args::number_at))]
 fn at(a: &[u64], i: usize) -> u64
     ensures { result ≡ number_at a.now i }
 {
-    if i < a.len() { a[i] } else { 0 }
+    a.get(i).copied().unwrap_or(0)
 }
 
 // The number one place behind `i`.
@@ -111,12 +100,12 @@ fn at(a: &[u64], i: usize) -> u64
 fn behind(a: &[u64], i: usize) -> u64
     ensures { result ≡ number_at a.now (i + 1) }
 {
-    if i < a.len() { at(a, i + 1) } else { 0 }
+    i.checked_add(1).map_or(0, |next| at(a, next))
 }
 
 #[tactic(auto, using(time::specs::Pick::picks), unfolding(time::specs::Time::least))]
 fn narrow(n: u64) -> u32
     ensures { result ≡ least n largest_word }
 {
-    if n <= WORD as u64 { n as u32 } else { WORD }
+    u32::try_from(n).unwrap_or(u32::MAX)
 }

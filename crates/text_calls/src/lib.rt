@@ -4,6 +4,7 @@
 
 ghost use Rattle.std.specs.Prelude.{◌≡◌, []};
 ghost use Rattle.answer.specs.Answers.{Answers};
+ghost use Rattle.text_words.specs.Calls.{call_no};
 ghost use Rattle.text_calls.specs.Calls.{open_on, poll_on, proof_at, frame_on, target_on, start_at, reply_on, sent_on, wake_on, status_on, answer_on, left_on};
 
 use answer::Answer;
@@ -13,6 +14,7 @@ use frame_slots::FrameProof;
 use settings::Config;
 use state::{Profile, State};
 use text_args::ARGS;
+use text_words::Call;
 
 pub mod place;
 
@@ -29,15 +31,12 @@ pub struct Link {
 pub fn open(link: Link, a: &[u64; ARGS], log: &mut [u64; 768]) -> Answer
     ensures { Answers (open_on link a.now) result log.old log.new }
 {
-    let cfg = link.cfg;
-    let profile = link.profile;
-    let lease = text_args::index(a, place::OPEN_LEASE);
     call_open::open(
-        cfg,
-        profile,
+        link.cfg,
+        link.profile,
         text_args::flag(a, place::OPEN_ROLE),
         text_args::number(a, place::OPEN_TRANSPORT),
-        lease,
+        text_args::index(a, place::OPEN_LEASE),
         text_args::flag(a, place::OPEN_WORKERS),
         text_args::signed(a, place::OPEN_SPREAD),
         text_args::number(a, place::OPEN_NOW),
@@ -49,13 +48,10 @@ pub fn open(link: Link, a: &[u64; ARGS], log: &mut [u64; 768]) -> Answer
 pub fn poll(link: Link, a: &[u64; ARGS], log: &mut [u64; 768]) -> Answer
     ensures { Answers (poll_on link a.now) result log.old log.new }
 {
-    let s = link.state;
-    let cfg = link.cfg;
-    let profile = link.profile;
     poll::poll(
-        s,
-        cfg,
-        profile,
+        link.state,
+        link.cfg,
+        link.profile,
         text_args::number(a, place::POLL_NOW),
         text_args::flag(a, place::POLL_WORKERS),
         text_args::signed(a, place::POLL_SPREAD),
@@ -76,18 +72,14 @@ pub fn frame(
     ensures frame { Answers (frame_on link a.now source.now target.old) result log.old log.new }
     ensures target { target.new ≡ target_on link a.now source.now target.old }
 {
-    let s = link.state;
-    let cfg = link.cfg;
-    let profile = link.profile;
-    let p = frame_proof(a);
     frame::frame(
-        s,
-        cfg,
-        profile,
+        link.state,
+        link.cfg,
+        link.profile,
         text_args::number(a, place::FRAME_NOW),
         text_args::flag(a, place::FRAME_WORKERS),
         text_args::signed(a, place::FRAME_SPREAD),
-        p,
+        frame_proof(a),
         text_args::size(a, place::FRAME_BODY),
         source,
         target,
@@ -113,16 +105,12 @@ fn frame_proof(a: &[u64; ARGS]) -> FrameProof
 pub fn reply(link: Link, a: &[u64; ARGS]) -> Answer
     ensures { Answers (reply_on link a.now) result [] [] }
 {
-    let s = link.state;
-    let cfg = link.cfg;
-    let profile = link.profile;
-    let told = start_reply(a);
     call_reply::reply(
-        s,
-        cfg,
-        profile,
+        link.state,
+        link.cfg,
+        link.profile,
         text_args::number(a, place::REPLY_NOW),
-        told,
+        start_reply(a),
     )
 }
 
@@ -130,13 +118,12 @@ pub fn reply(link: Link, a: &[u64; ARGS]) -> Answer
 fn start_reply(a: &[u64; ARGS]) -> StartReply
     ensures { result ≡ start_at a.now }
 {
-    let lease = text_args::index(a, place::REPLY_LEASE);
     StartReply {
         opened: text_args::flag(a, place::REPLY_OPENED),
         hs: text_args::number(a, place::REPLY_HS),
         msg: text_args::number(a, place::REPLY_MSG),
         transport: text_args::number(a, place::REPLY_TRANSPORT),
-        lease: lease,
+        lease: text_args::index(a, place::REPLY_LEASE),
     }
 }
 
@@ -144,9 +131,8 @@ fn start_reply(a: &[u64; ARGS]) -> StartReply
 pub fn sent(link: Link, a: &[u64; ARGS]) -> Answer
     ensures { Answers (sent_on link a.now) result [] [] }
 {
-    let s = link.state;
     call_sent::told(
-        s,
+        link.state,
         text_args::number(a, place::SENT_NOW),
         text_args::number(a, place::SENT_COUNT),
     )
@@ -156,52 +142,41 @@ pub fn sent(link: Link, a: &[u64; ARGS]) -> Answer
 pub fn wake(link: Link) -> Woke
     ensures { result ≡ wake_on link }
 {
-    let s = link.state;
-    let cfg = link.cfg;
-    let profile = link.profile;
-    call_read::wake(s, cfg, profile)
+    call_read::wake(link.state, link.cfg, link.profile)
 }
 
 #[tactic(auto, unfolding(crate::specs::Calls::status_on))]
 pub fn status(link: Link, a: &[u64; ARGS]) -> Shown
     ensures { result ≡ status_on link a.now }
 {
-    let s = link.state;
-    let cfg = link.cfg;
-    let profile = link.profile;
-    call_read::status(s, cfg, profile, text_args::number(a, place::STATUS_NOW))
+    call_read::status(
+        link.state,
+        link.cfg,
+        link.profile,
+        text_args::number(a, place::STATUS_NOW),
+    )
 }
 
-// The call of that number, among those that hand a state back; any number past `SENT` is a notice's.
-// Only a frame reads the source and writes to the target.
+// The call, among those that hand a state back; any other is taken for a notice. Only a frame reads the
+// source and writes to the target.
+#[tactic(auto, unfolding(crate::specs::Calls::answer_on, crate::specs::Calls::left_on))]
 pub fn answer(
     link: Link,
-    call: u8,
+    call: Call,
     a: &[u64; ARGS],
     source: &[u8],
     target: &mut [u8],
     log: &mut [u64; 768],
 ) -> Answer
-    ensures answer { Answers (answer_on call link a.now source.now target.old) result log.old log.new }
-    ensures target { target.new ≡ left_on call link a.now source.now target.old }
+    ensures answer { Answers (answer_on (call_no call) link a.now source.now target.old) result log.old log.new }
+    ensures target { target.new ≡ left_on (call_no call) link a.now source.now target.old }
 {
-    if call == text_words::OPEN {
-        return open(link, a, log);
+    match call {
+        Call::Open => open(link, a, log),
+        Call::Poll => poll(link, a, log),
+        Call::Frame => frame(link, a, source, target, log),
+        Call::Reply => reply(link, a),
+        Call::Sent => sent(link, a),
+        _ => text_notices::notice(link.state, link.cfg, link.profile, call, a, log),
     }
-    if call == text_words::POLL {
-        return poll(link, a, log);
-    }
-    if call == text_words::FRAME {
-        return frame(link, a, source, target, log);
-    }
-    if call == text_words::REPLY {
-        return reply(link, a);
-    }
-    if call == text_words::SENT {
-        return sent(link, a);
-    }
-    let s = link.state;
-    let cfg = link.cfg;
-    let profile = link.profile;
-    text_notices::notice(s, cfg, profile, call, a, log)
 }

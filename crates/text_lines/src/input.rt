@@ -1,74 +1,131 @@
 // Lines of a reader, through a lent buffer. A line is a part of the buffer, so a line that
-// is longer than the buffer is not found.
-ghost use Rattle.std.specs.Prelude.{◌≡◌, ◌-◌, ◌≤◌, min, length, drop};
-ghost use Rattle.std.proofs.Math.Seq.{paste};
-ghost use Rattle.text_lines.specs.Inputs.{Filled, Found, line_to, no_line, last_of, waiting, line_end};
+// is longer than the buffer is refused; std's readers would keep any line, in memory of their own.
+ghost use Rattle.std.specs.Prelude.{◌≡◌, ◌+◌, ◌-◌, ◌≤◌, length, true, Ok};
+ghost use Rattle.text.specs.Bytes.{index_of, slice};
+ghost use Rattle.text_lines.specs.Inputs.{Filled, Found, waiting, line_end};
 ghost use Rattle.io.specs.Counts.{IsPrefixLen};
 
 use std::io::Read;
 
-// The bytes of the buffer that are not read yet lie from `start` to `end`.
-#[derive(Clone, Copy)]
-pub struct Input {
-    pub start: usize,
-    pub end: usize,
-    pub ended: bool,
-    pub failed: bool,
+// Why there is no next line, where the input has not ended.
+#[derive(Clone, Copy, PartialEq, Eq)]
+pub enum Unread {
+    Failed,
+    TooLong,
 }
 
-// The next line, from `start` to `end` of the buffer, and the input after it. Where there is none
-// the input has failed, or else it has ended, or else the line is longer than the buffer.
-#[derive(Clone, Copy)]
-pub struct Line {
-    pub some: bool,
-    pub start: usize,
-    pub end: usize,
-    pub input: Input,
+// What a reader still has: more may come, or it has ended, or it cannot be read.
+#[derive(Clone, Copy, PartialEq, Eq)]
+pub enum Rest {
+    More,
+    Ended,
+    Failed,
 }
 
-impl Input {
-    pub fn new() -> Input {
+// A reader and a buffer. The line that was found last lies from `start` to `end`, and the bytes
+// that are not read yet from `next` to `filled`.
+#[derive(Drop)]
+pub struct Input<'a, F> {
+    pub from: &'a mut F,
+    pub buffer: &'a mut [u8],
+    pub start: usize,
+    pub end: usize,
+    pub next: usize,
+    pub filled: usize,
+    pub rest: Rest,
+}
+
+impl<'a, F: Read> Input<'a, F> {
+    pub fn new(from: &'a mut F, buffer: &'a mut [u8]) -> Input<'a, F>
+        ensures from { result.from.ghost_name ≡ from.entry.ghost_name }
+        ensures buffer { result.buffer.ghost_name ≡ buffer.entry.ghost_name }
+    {
         Input {
+            from,
+            buffer,
             start: 0,
             end: 0,
-            ended: false,
-            failed: false,
+            next: 0,
+            filled: 0,
+            rest: Rest::More,
         }
     }
 
-    pub fn line(self, from: &mut impl Read, buf: &mut [u8]) -> Line
-        ensures { Found buf.new result }
+    // The line that `advance` found, without its newline; none before that.
+    pub fn line(&self) -> &[u8]
+        ensures { self.now.start ≤ self.now.end → self.now.end ≤ length self.now.buffer.now → result.now ≡ slice self.now.start self.now.end self.now.buffer.now }
     {
-        let mut input = bounded(self, buf.len());
-        loop {
-            let start = input.start;
-            let end = input.end;
-            let stop = text::find_before(buf, start, end, b'\n');
-            if stop < end {
-                return line_to(input, stop, stop + 1);
-            }
-            if input.ended {
-                return last(input);
-            }
-            if end - start == buf.len() {
-                return none(input);
-            }
-            input = fill(from, buf, start, end);
+        if self.start <= self.end && self.end <= self.buffer.len() {
+            &self.buffer[self.start..self.end]
+        } else {
+            &[]
         }
     }
 
-    // Whether the next line is not whole in the buffer, so that `line` reads. A program writes out
+    // Goes to the next line, and answers whether there is one: there is none at the end.
+    pub fn advance(&mut self) -> Result<bool, Unread>
+        ensures from { self.new.from.ghost_name ≡ self.old.from.ghost_name }
+        ensures buffer { self.new.buffer.ghost_name ≡ self.old.buffer.ghost_name }
+        ensures within { (self.new.start ≤ self.new.end) × (self.new.end ≤ length self.new.buffer.now) }
+        ensures found { result ≡ Ok true → (Found self.new.buffer.now self.new.start self.new.end self.new.next self.new.filled) }
+    {
+        self.start = 0;
+        self.end = 0;
+        self.filled = self.filled.min(self.buffer.len());
+        self.next = self.next.min(self.filled);
+        loop {
+            let next = self.next;
+            let filled = self.filled;
+            let buffer = &mut *self.buffer;
+            let stop = newline(buffer, next, filled);
+            if stop < filled {
+                self.take(stop, stop + 1);
+                return Ok(true);
+            }
+            match self.rest {
+                Rest::Failed => return Err(Unread::Failed),
+                Rest::Ended if next == stop => return Ok(false),
+                Rest::Ended => {
+                    self.take(stop, stop);
+                    return Ok(true);
+                }
+                Rest::More if filled - next == self.buffer.len() => {
+                    return Err(Unread::TooLong);
+                }
+                Rest::More => {
+                    let (filled, rest) = fill(self.from, self.buffer, next, filled);
+                    self.next = 0;
+                    self.filled = filled;
+                    self.rest = rest;
+                }
+            }
+        }
+    }
+
+    // Whether the next line is not whole in the buffer, so that `advance` reads. A program writes out
     // what it holds before such a read, since the one who types lines waits for the answers.
     #[tactic(auto, unfolding(crate::specs::Inputs::waiting))]
-    pub fn waits(self, buf: &[u8]) -> bool
-        ensures { result ≡ waiting buf.now self }
+    pub fn waits(&self) -> bool
+        ensures { result ≡ waiting self.now.buffer.now self.now.next self.now.filled self.now.rest }
     {
-        if self.ended {
-            return false;
-        }
-        let end = least(self.end, buf.len());
-        let start = least(self.start, end);
-        text::find_before(buf, start, end, b'\n') == end
+        let filled = self.filled.min(self.buffer.len());
+        let next = self.next.min(filled);
+        self.rest == Rest::More && newline(self.buffer, next, filled) == filled
+    }
+}
+
+impl<F> Input<'_, F> {
+    // The line lies from `next` to `stop`, and the one after it begins at `behind`.
+    fn take(&mut self, stop: usize, behind: usize)
+        ensures from { self.new.from.ghost_name ≡ self.old.from.ghost_name }
+        ensures same_reference { self.new.buffer.ghost_name ≡ self.old.buffer.ghost_name }
+        ensures buffer { self.new.buffer.now ≡ self.old.buffer.now }
+        ensures line { (self.new.start ≡ self.old.next) × (self.new.end ≡ stop) }
+        ensures rest { (self.new.next ≡ behind) × (self.new.filled ≡ self.old.filled) × (self.new.rest ≡ self.old.rest) }
+    {
+        self.start = self.next;
+        self.end = stop;
+        self.next = behind;
     }
 }
 
@@ -78,108 +135,32 @@ pub fn line_end(line: &[u8]) -> usize
     ensures prefix_len { IsPrefixLen result line.now }
     ensures value { result ≡ line_end line.now }
 {
-    let n = line.len();
-    if n == 0 {
-        return 0;
-    }
-    if line[n - 1] == b'\r' {
-        return n - 1;
-    }
-    n
-}
-
-// The line up to `end`, with the next line at `next`.
-fn line_to(input: Input, end: usize, next: usize) -> Line
-    ensures { result ≡ line_to input end next }
-{
-    Line {
-        some: true,
-        start: input.start,
-        end: end,
-        input: Input {
-            start: next,
-            end: input.end,
-            ended: input.ended,
-            failed: input.failed,
-        },
+    match line {
+        [front @ .., b'\r'] => front.len(),
+        _ => line.len(),
     }
 }
 
-// The line that the end of the input ends. A read that failed ends no line.
-fn last(input: Input) -> Line
-    ensures { result ≡ last_of input }
+// Where the first newline stands among the bytes from `next` to `filled`, or else `filled`.
+fn newline(buffer: &[u8], next: usize, filled: usize) -> usize
+    requires { (next ≤ filled) × (filled ≤ length buffer.now) }
+    ensures value { result ≡ next + index_of 10 (slice next filled buffer.now) }
+    ensures bound { result ≤ filled }
 {
-    if input.failed {
-        return none(input);
-    }
-    if input.start < input.end {
-        return line_to(input, input.end, input.end);
-    }
-    none(input)
+    text::find(&buffer[..filled], next, b'\n')
 }
 
-fn none(input: Input) -> Line
-    ensures { result ≡ no_line input }
+// Moves the bytes from `start` to `end` to the front of `buffer`, and reads once behind them.
+// Answers how many bytes are held then, and what the reader still has.
+fn fill<F: Read>(from: &mut F, buffer: &mut [u8], start: usize, end: usize) -> (usize, Rest)
+    requires { (start ≤ end) × (end ≤ length buffer.old) }
+    ensures { Filled buffer.old buffer.new start end result.0 result.1 }
 {
-    Line {
-        some: false,
-        start: 0,
-        end: 0,
-        input: input,
+    let kept = end - start;
+    buffer.copy_within(start..end, 0);
+    match from.read(&mut buffer[kept..]) {
+        Ok(0) => (kept, Rest::Ended),
+        Ok(n) => (kept + n, Rest::More),
+        Err(_) => (kept, Rest::Failed),
     }
-}
-
-// `input` with its places within a buffer of `len` bytes.
-fn bounded(input: Input, len: usize) -> Input
-    ensures { (result.start ≤ result.end) × (result.end ≤ len) }
-{
-    let end = least(input.end, len);
-    Input {
-        start: least(input.start, end),
-        end: end,
-        ended: input.ended,
-        failed: input.failed,
-    }
-}
-
-fn least(a: usize, b: usize) -> usize
-    ensures { result ≡ min a b }
-{
-    if a < b { a } else { b }
-}
-
-// Moves the bytes from `start` to `end` to the front of `buf`, and reads once behind them.
-fn fill(from: &mut impl Read, buf: &mut [u8], start: usize, end: usize) -> Input
-    requires { (start ≤ end) × (end ≤ length buf.old) }
-    ensures { Filled buf.old buf.new start end result }
-{
-    let kept = shift(buf, start, end);
-    match from.read(&mut buf[kept..]) {
-        Ok(n) => Input {
-            start: 0,
-            end: kept + n,
-            ended: n == 0,
-            failed: false,
-        },
-        Err(_) => Input {
-            start: 0,
-            end: kept,
-            ended: true,
-            failed: true,
-        },
-    }
-}
-
-// Moves the bytes from `start` to `end` to the front of `buf`, and answers how many there are.
-fn shift(buf: &mut [u8], start: usize, end: usize) -> usize
-    requires { (start ≤ end) × (end ≤ length buf.old) }
-    ensures { (result ≡ end - start) × (buf.new ≡ paste buf.old 0 (drop start buf.old) (end - start)) }
-{
-    let n = end - start;
-    let mut i = 0;
-    while i < n {
-        buf[i] = buf[start + i];
-        i += 1;
-    }
-    n
 }

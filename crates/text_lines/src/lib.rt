@@ -6,9 +6,10 @@ mod output;
 mod parts;
 mod report;
 
-pub use input::{Input, Line, line_end};
+pub use input::{Input, Unread, line_end};
 pub use output::{Output, put, put_number};
+pub use parts::Ascii;
 pub use report::{
-    progress, tell, tell_about, tell_choice, tell_early, tell_fault, tell_missing, tell_most,
-    tell_no_line,
+    finish, progress, tell, tell_about, tell_choice, tell_early, tell_fault, tell_missing,
+    tell_most, tell_unread, written,
 };

@@ -1,6 +1,6 @@
 // Bytes and numbers put into a lent buffer.
 ghost use Rattle.std.specs.Prelude.{◌≡◌, ◌+◌, leb};
-ghost use Rattle.text_lines.specs.Outputs.{fitting as fitting_of, written, written_to, held, held_to, decimal_of};
+ghost use Rattle.text_lines.specs.Outputs.{written, written_to, held, held_to, decimal_of};
 
 // Copies `s` into `out` from index `at` on, as far as `out` reaches, and answers the index after
 // what was copied.
@@ -8,23 +8,11 @@ ghost use Rattle.text_lines.specs.Outputs.{fitting as fitting_of, written, writt
 pub fn put(out: &mut [u8], at: usize, s: &[u8]) -> usize
     ensures { (result ≡ written_to out.old at s.now) × (out.new ≡ written out.old at s.now) }
 {
-    let n = fitting(s.len(), at, out.len());
-    let mut i = 0;
-    while i < n {
-        out[at + i] = s[i];
-        i += 1;
+    let n = s.len().min(out.len().saturating_sub(at));
+    if 0 < n {
+        out[at..at + n].copy_from_slice(&s[..n]);
     }
     at + n
-}
-
-// How many of `n` bytes fit from index `at` on below `len`.
-fn fitting(n: usize, at: usize, len: usize) -> usize
-    ensures { result ≡ fitting_of n at len }
-{
-    if len <= at {
-        return 0;
-    }
-    if n < len - at { n } else { len - at }
 }
 
 // Puts the decimal digits of `n` as `put` puts bytes.
@@ -36,81 +24,75 @@ pub fn put_number(out: &mut [u8], at: usize, n: u64) -> usize
     put(out, at, &digits[..k])
 }
 
-// How far a lent buffer holds what is to be written out, and whether a write has failed.
-#[derive(Clone, Copy)]
-pub struct Output {
+// What is to be written out: a lent buffer, which holds it up to `at`, and whether a write has
+// failed. std's writers answer each write by a Result; here a program asks once a line.
+#[derive(Drop)]
+pub struct Output<'r, 'b, R> {
+    pub rt: &'r R,
+    pub buffer: &'b mut [u8],
     pub at: usize,
     pub failed: bool,
 }
 
-impl Output {
-    pub fn new() -> Output {
+impl<'r, 'b, R: Print> Output<'r, 'b, R> {
+    pub fn new(rt: &'r R, buffer: &'b mut [u8]) -> Output<'r, 'b, R>
+        ensures same_reference { result.buffer.ghost_name ≡ buffer.entry.ghost_name }
+        ensures buffer { result.buffer.now ≡ buffer.old }
+        ensures at { result.at ≡ 0 }
+    {
         Output {
+            rt,
+            buffer,
             at: 0,
             failed: false,
         }
     }
 
-    // Writes out what the buffer holds. After a write that failed nothing more is written.
-    pub fn flush(self, rt: &impl Print, out: &[u8]) -> Output
-        ensures { result.at ≡ 0 }
+    // Writes out what the buffer holds, and answers whether all was written so far. After a write
+    // that failed nothing more is written.
+    pub fn flush(&mut self) -> bool
+        ensures same_reference { self.new.buffer.ghost_name ≡ self.old.buffer.ghost_name }
+        ensures buffer { self.new.buffer.now ≡ self.old.buffer.now }
+        ensures at { self.new.at ≡ 0 }
     {
         let at = self.at;
-        if self.failed {
-            return Output {
-                at: 0,
-                failed: true,
-            };
-        }
-        if out.len() < at {
-            return Output {
-                at: 0,
-                failed: true,
-            };
-        }
-        let written = rt.write_all(&out[..at]).is_ok();
-        Output {
-            at: 0,
-            failed: !written,
-        }
+        let buffer = &mut *self.buffer;
+        let failed = self.failed || fails(self.rt, buffer, at);
+        self.failed = failed;
+        self.at = 0;
+        !failed
     }
 
     // Puts `s` behind what the buffer holds. Where it does not fit the buffer is written out first,
     // and so is `s` where it is longer than the buffer.
     #[tactic(auto, using(crate::proofs::Laws::held_laws))]
-    pub fn bytes(self, rt: &impl Print, out: &mut [u8], s: &[u8]) -> Output
-        ensures { (result.at ≡ held_to out.old self.at s.now) × (out.new ≡ held out.old self.at s.now) }
+    pub fn bytes(&mut self, s: &[u8])
+        ensures same_reference { self.new.buffer.ghost_name ≡ self.old.buffer.ghost_name }
+        ensures buffer { self.new.buffer.now ≡ held self.old.buffer.now self.old.at s.now }
+        ensures at { self.new.at ≡ held_to self.old.buffer.now self.old.at s.now }
     {
         let at = self.at;
-        if fits(s.len(), at, out.len()) {
-            let next = put(out, at, s);
-            return Output {
-                at: next,
-                failed: self.failed,
-            };
+        if fits(s.len(), at, self.buffer.len()) {
+            self.at = put(self.buffer, at, s);
+            return;
         }
-        let flushed = self.flush(rt, out);
-        if s.len() <= out.len() {
-            let next = put(out, 0, s);
-            return Output {
-                at: next,
-                failed: flushed.failed,
-            };
+        self.flush();
+        if s.len() <= self.buffer.len() {
+            self.at = put(self.buffer, 0, s);
+        } else if !self.failed {
+            self.failed = fails(self.rt, s, s.len());
         }
-        let whole = Output {
-            at: s.len(),
-            failed: flushed.failed,
-        };
-        whole.flush(rt, s)
     }
 
     // Puts the decimal digits of `n` in the same way.
-    pub fn number(self, rt: &impl Print, out: &mut [u8], n: u64) -> Output
-        ensures { (result.at ≡ held_to out.old self.at (decimal_of n)) × (out.new ≡ held out.old self.at (decimal_of n)) }
+    pub fn number(&mut self, n: u64)
+        ensures same_reference { self.new.buffer.ghost_name ≡ self.old.buffer.ghost_name }
+        ensures buffer { self.new.buffer.now ≡ held self.old.buffer.now self.old.at (decimal_of n) }
+        ensures at { self.new.at ≡ held_to self.old.buffer.now self.old.at (decimal_of n) }
     {
         let mut digits = [0u8; 20];
         let k = io::decimal(n, &mut digits);
-        self.bytes(rt, out, &digits[..k])
+        self.bytes(&digits[..k]);
     }
 }
 
@@ -118,5 +100,10 @@ impl Output {
 fn fits(n: usize, at: usize, len: usize) -> bool
     ensures { result ≡ leb (at + n) len }
 {
-    if len < at { false } else { n <= len - at }
+    at <= len && n <= len - at
+}
+
+// Whether the bytes of `s` before `end` cannot be written.
+fn fails(rt: &impl Print, s: &[u8], end: usize) -> bool {
+    s.len() < end || rt.write_all(&s[..end]).is_err()
 }

@@ -1,16 +1,44 @@
 // Parts of a sentence on standard error.
-ghost use Rattle.std.specs.Prelude.{◌<◌, length};
-
 use std::fmt;
+use text::Scan;
 
 // How many bytes of a word are shown.
 const MOST_SHOWN: usize = 40;
 
-// Bytes of ASCII.
+// A word in double quotes, with `...` where it is longer than is shown.
 #[derive(Clone, Copy)]
-struct Words<'a>(&'a [u8]);
+pub struct Quoted<'a>(pub &'a [u8]);
 
-impl fmt::Display for Words<'_> {
+impl fmt::Display for Quoted<'_> {
+    fn fmt<W: fmt::Write>(&self, f: &mut fmt::Formatter<W>) -> fmt::Result {
+        let shown = self.0.get(..MOST_SHOWN).unwrap_or(self.0);
+        f.write_str("\"")?;
+        for b in shown {
+            show(f, *b)?;
+        }
+        f.write_str(if shown.len() < self.0.len() {
+            "...\""
+        } else {
+            "\""
+        })
+    }
+}
+
+// A byte as it is, or as `\x1b` where it is a quote, a backslash or not a visible ASCII character:
+// a terminal acts on some of these.
+fn show<W: fmt::Write>(f: &mut fmt::Formatter<W>, b: u8) -> fmt::Result {
+    if b.is_ascii_graphic() && b != b'"' && b != b'\\' {
+        f.write_char(char::from(b))
+    } else {
+        write!(f, "\\x{b:02x}")
+    }
+}
+
+// A word of ASCII.
+#[derive(Clone, Copy)]
+pub struct Ascii<'a>(pub &'a [u8]);
+
+impl fmt::Display for Ascii<'_> {
     fn fmt<W: fmt::Write>(&self, f: &mut fmt::Formatter<W>) -> fmt::Result {
         for b in self.0 {
             f.write_char(char::from(*b))?;
@@ -19,75 +47,37 @@ impl fmt::Display for Words<'_> {
     }
 }
 
-pub fn say(rt: &impl Eprint, words: &[u8]) {
-    let _ = rt.eprint(Words(words));
-}
+// Words as `a, b or c`.
+#[derive(Clone, Copy)]
+pub struct Choice<'a>(pub &'a [&'a [u8]]);
 
-// The words and then the number.
-pub fn count(rt: &impl Eprint, words: &[u8], n: u64) {
-    say(rt, words);
-    let _ = rt.eprint(n);
-}
-
-// `s` in double quotes and between commas, with `...` where it is longer than is shown.
-pub fn quote(rt: &impl Eprint, s: &[u8]) {
-    say(rt, b", \"");
-    if MOST_SHOWN < s.len() {
-        show(rt, &s[..MOST_SHOWN]);
-        say(rt, b"...\",");
-        return;
-    }
-    show(rt, s);
-    say(rt, b"\",");
-}
-
-fn show(rt: &impl Eprint, s: &[u8]) {
-    let mut i = 0;
-    while i < s.len() {
-        show_byte(rt, s[i]);
-        i += 1;
+impl fmt::Display for Choice<'_> {
+    fn fmt<W: fmt::Write>(&self, f: &mut fmt::Formatter<W>) -> fmt::Result {
+        let n = self.0.len();
+        for i in 0..n {
+            if 0 < i {
+                f.write_str(if i + 1 == n { " or " } else { ", " })?;
+            }
+            Ascii(self.0[i]).fmt(f)?;
+        }
+        Ok(())
     }
 }
 
-// A byte as it is, or as `\x1b` where it is a quote, a backslash or not a visible ASCII character:
-// a terminal acts on some of these.
-fn show_byte(rt: &impl Eprint, b: u8) {
-    if is_plain(b) {
-        say(rt, &[b]);
-        return;
-    }
-    let _ = eprint!(rt; "\\x{b:02x}");
-}
+// The field at which a scan stands: `field 3`, and its word where the field is there, `, "abc",`.
+#[derive(Clone, Copy)]
+pub struct Named<'a>(pub &'a Scan<'a>);
 
-fn is_plain(b: u8) -> bool {
-    if b == b'"' {
-        return false;
-    }
-    if b == b'\\' {
-        return false;
-    }
-    if b < 33 { false } else { b <= 126 }
-}
-
-// `words`, which single spaces separate, as `a, b or c`.
-pub fn list(rt: &impl Eprint, words: &[u8]) {
-    let mut i = 0;
-    while i < words.len() {
-        list_byte(rt, words, i);
-        i += 1;
-    }
-}
-
-// The byte of `words` at `i`, or what stands for a space there.
-fn list_byte(rt: &impl Eprint, words: &[u8], i: usize)
-    requires { i < length words.now }
-{
-    let b = words[i];
-    if b != b' ' {
-        say(rt, &[b]);
-    } else if text::find(words, i + 1, b' ') < words.len() {
-        say(rt, b", ");
-    } else {
-        say(rt, b" or ");
+impl fmt::Display for Named<'_> {
+    fn fmt<W: fmt::Write>(&self, f: &mut fmt::Formatter<W>) -> fmt::Result {
+        let line = self.0.line;
+        let at = self.0.at;
+        let number = text::ordinal(line, at);
+        write!(f, "field {number}")?;
+        if at <= line.len() {
+            let word = Quoted(text::field_bytes(line, at));
+            write!(f, ", {word},")?;
+        }
+        Ok(())
     }
 }

@@ -1,230 +1,175 @@
 // Sentences on standard error. One about a line that is refused begins with `line ` and the line's
-// number, from 1; any other begins with `note: `.
-use crate::input::Input;
-use crate::parts::{count, list, quote, say};
-use text::Scan;
+// number, from 1; any other begins with `note: `. The runtime, the number and the scan stay
+// parameters: a line gets one sentence, and a struct of the three would be made for it alone.
+use crate::input::Unread;
+use crate::output::Output;
+use crate::parts::{Choice, Named};
+use std::fmt::Display;
+use text::{Fault, Scan};
 
 const PROGRESS: u64 = 1000000;
 
-const TAB: u8 = 9;
-
 // `line 7: ` and the words.
-pub fn tell(rt: &impl Eprint, number: u64, words: &[u8]) {
-    begin(rt, number);
-    end(rt, words);
+pub fn tell(rt: &impl Eprint, number: u64, words: impl Display + Drop) {
+    let _ = eprintln!(rt; "line {number}: {words}");
 }
 
-// Why there is no line, unless the input has ended, and whether it has.
-pub fn tell_no_line(rt: &impl Eprint, number: u64, input: Input) -> bool {
-    if input.failed {
-        tell(rt, number, b"the input cannot be read.");
-        return false;
+// Why there is no line.
+pub fn tell_unread(rt: &impl Eprint, number: u64, unread: Unread) {
+    match unread {
+        Unread::Failed => tell(rt, number, "the input cannot be read."),
+        Unread::TooLong => tell(rt, number, "the line is too long."),
     }
-    if input.ended {
-        return true;
-    }
-    tell(rt, number, b"the line is too long.");
-    false
 }
 
 // What is wrong with the field at which the scan of a line stopped:
 // `line 7: field 3, "12x", is not a number.` Here and in the next four functions a field that is
 // empty, has a tab or begins with a byte order mark is told as that.
-pub fn tell_fault(rt: &impl Eprint, number: u64, line: &[u8], scan: Scan) {
-    if begin_field(rt, number, line, scan.at) {
-        end_fault(rt, scan.fault);
-    }
+pub fn tell_fault(rt: &impl Eprint, number: u64, scan: &Scan<'_>, fault: Fault) {
+    tell_field(rt, number, scan, format_args!("{fault}."));
 }
 
-fn end_fault(rt: &impl Eprint, fault: u8) {
-    match fault {
-        text::NONE => end(rt, b" is right."),
-        text::MISSING => end(rt, b" is missing."),
-        text::EMPTY | text::NOT_DIGIT => end(rt, b" is not a number."),
-        text::TOO_LARGE => end(rt, b" is too large."),
-        text::EXTRA => end(rt, b" is one too many."),
-        _ => end(rt, b" is not a known word."),
-    }
-}
-
-// As `tell_fault`, with the most that a number can be: `.. is too large: at most 65535.`
-pub fn tell_most(rt: &impl Eprint, number: u64, line: &[u8], scan: Scan, most: u64) {
-    if scan.fault != text::TOO_LARGE {
-        tell_fault(rt, number, line, scan);
-    } else if begin_field(rt, number, line, scan.at) {
-        end_most(rt, is_minus(line, scan.at), most);
-    }
-}
-
-// A number below 0 that does not fit is too small: those with a sign reach down to -2^31.
-fn end_most(rt: &impl Eprint, minus: bool, most: u64) {
-    if minus {
-        end(rt, b" is too small: at least -2147483648.");
+// As `tell_fault`, with the most that a number can be: `.. is too large: at most 65535.` A number
+// below 0 that does not fit is too small: those with a sign reach down to -2^31.
+pub fn tell_most(rt: &impl Eprint, number: u64, scan: &Scan<'_>, fault: Fault, most: u64) {
+    if fault != Fault::TooLarge {
+        tell_fault(rt, number, scan, fault);
+    } else if text::field_bytes(scan.line, scan.at).starts_with(b"-") {
+        tell_field(rt, number, scan, "is too small: at least -2147483648.");
     } else {
-        count(rt, b" is too large: at most ", most);
-        end(rt, b".");
-    }
-}
-
-fn is_minus(line: &[u8], at: usize) -> bool {
-    if at < line.len() {
-        line[at] == b'-'
-    } else {
-        false
+        tell_field(
+            rt,
+            number,
+            scan,
+            format_args!("is too large: at most {most}."),
+        );
     }
 }
 
 // The words that can stand there, of which the field is none or for which it is missing:
-// `.. is not a role: responder or initiator.` Single spaces separate `words`.
+// `.. is not a role: responder or initiator.`
 pub fn tell_choice(
     rt: &impl Eprint,
     number: u64,
-    line: &[u8],
-    scan: Scan,
-    what: &[u8],
-    words: &[u8],
+    scan: &Scan<'_>,
+    what: impl Display + Drop,
+    words: &[&[u8]],
 ) {
-    if begin_field(rt, number, line, scan.at) {
-        refuse(rt, scan.at <= line.len(), what);
-        list(rt, words);
-        end(rt, b".");
+    let words = Choice(words);
+    if scan.at <= scan.line.len() {
+        tell_field(rt, number, scan, format_args!("is not {what}: {words}."));
+    } else {
+        tell_field(rt, number, scan, format_args!("is missing: {words}."));
     }
-}
-
-// That the field is not `what`, or that it is missing.
-fn refuse(rt: &impl Eprint, there: bool, what: &[u8]) {
-    if !there {
-        say(rt, b" is missing: ");
-        return;
-    }
-    say(rt, b" is not ");
-    say(rt, what);
-    say(rt, b": ");
 }
 
 // As `tell_fault`, with what is missing: `.. is missing: the instant.`
-pub fn tell_missing(rt: &impl Eprint, number: u64, line: &[u8], scan: Scan, what: &[u8]) {
-    if scan.at <= line.len() {
-        tell_fault(rt, number, line, scan);
-    } else if begin_field(rt, number, line, scan.at) {
-        say(rt, b" is missing: ");
-        say(rt, what);
-        end(rt, b".");
+pub fn tell_missing(
+    rt: &impl Eprint,
+    number: u64,
+    scan: &Scan<'_>,
+    fault: Fault,
+    what: impl Display + Drop,
+) {
+    if scan.at <= scan.line.len() {
+        tell_fault(rt, number, scan, fault);
+    } else {
+        tell_field(rt, number, scan, format_args!("is missing: {what}."));
     }
 }
 
 // The field at which the scan stands, and the words: `line 7: field 3, "abc", ` and `words`.
-pub fn tell_about(rt: &impl Eprint, number: u64, line: &[u8], scan: Scan, words: &[u8]) {
-    if begin_field(rt, number, line, scan.at) {
-        if line.len() < scan.at {
-            end_fault(rt, text::MISSING);
-        } else {
-            say(rt, b" ");
-            end(rt, words);
-        }
+pub fn tell_about(rt: &impl Eprint, number: u64, scan: &Scan<'_>, words: impl Display + Drop) {
+    if scan.at <= scan.line.len() {
+        tell_field(rt, number, scan, words);
+    } else {
+        tell_fault(rt, number, scan, Fault::Missing);
     }
 }
 
 // An instant that is before one of an earlier line; it is answered all the same.
 pub fn tell_early(rt: &impl Eprint, number: u64, now: u64, latest: u64) {
-    say(rt, b"note: ");
-    begin(rt, number);
-    count(rt, b"the instant ", now);
-    count(rt, b" is before ", latest);
-    end(rt, b", an earlier line's.");
+    let _ = eprintln!(rt;
+        "note: line {number}: the instant {now} is before {latest}, an earlier line's."
+    );
 }
 
 // How many lines have been read, at each million of them.
 pub fn progress(rt: &impl Eprint, number: u64) {
-    if number == 0 {
-        return;
-    }
-    if number % PROGRESS == 0 {
-        count(rt, b"note: ", number);
-        end(rt, b" lines.");
+    if number != 0 && number % PROGRESS == 0 {
+        let _ = eprintln!(rt; "note: {number} lines.");
     }
 }
 
-// Begins a sentence about the field at `at`, `line 7: field 3` and, where the field is there, its
-// word: `, "abc",`. One about an odd field it tells whole. It answers whether the sentence goes on.
-fn begin_field(rt: &impl Eprint, number: u64, line: &[u8], at: usize) -> bool {
-    if tell_odd(rt, number, line, at) {
-        return false;
-    }
-    begin(rt, number);
-    count(rt, b"field ", text::ordinal(line, at) as u64);
-    if at <= line.len() {
-        quote(rt, text::field_bytes(line, at));
-    }
-    true
+// Writes out what is left, and tells where a write has failed.
+pub fn finish<R: Print + Eprint>(out: &mut Output<'_, '_, R>, number: u64) {
+    out.flush();
+    written(out, number);
 }
 
-// Tells a field that is empty, begins with a byte order mark or has a tab, and answers whether it
-// is such a field.
-fn tell_odd(rt: &impl Eprint, number: u64, line: &[u8], at: usize) -> bool {
-    if line.len() < at {
-        return false;
+// Whether no write has failed; else that is told.
+pub fn written<R: Print + Eprint>(out: &Output<'_, '_, R>, number: u64) -> bool {
+    if out.failed {
+        tell(out.rt, number, "the answers cannot be written.");
     }
-    let word = text::field_bytes(line, at);
-    if word.len() == 0 {
-        tell_empty(rt, number, line, at);
-        return true;
-    }
-    if is_marked(word, at) {
-        tell(rt, number, b"the line begins with a byte order mark.");
-        return true;
-    }
-    if text::find(word, 0, TAB) < word.len() {
-        begin(rt, number);
-        count(rt, b"field ", text::ordinal(line, at) as u64);
-        end(rt, b" has a tab; fields are separated by single spaces.");
-        return true;
-    }
-    false
+    !out.failed
 }
 
-// Tells the space that makes the field at `at` empty.
-fn tell_empty(rt: &impl Eprint, number: u64, line: &[u8], at: usize) {
-    begin(rt, number);
-    if line.len() == 0 {
-        end(rt, b"the line is empty.");
-    } else if at == 0 {
-        end(rt, b"the line begins with a space.");
-    } else if at == line.len() {
-        end(rt, b"the line ends with a space.");
-    } else {
-        count(
+// What is odd about a field: it is empty, begins with a byte order mark or has a tab.
+#[derive(Clone, Copy)]
+enum Odd {
+    Empty,
+    Marked,
+    Tab,
+}
+
+// A sentence about the field of the scan: which it is and the words, or what is odd about it.
+fn tell_field(rt: &impl Eprint, number: u64, scan: &Scan<'_>, words: impl Display + Drop) {
+    let field = Named(scan);
+    match oddity(scan) {
+        Some(Odd::Empty) => tell_empty(rt, number, scan),
+        Some(Odd::Marked) => tell(rt, number, "the line begins with a byte order mark."),
+        Some(Odd::Tab) => tell_spaces(
             rt,
-            b"two spaces follow field ",
-            text::ordinal(line, at - 1) as u64,
-        );
-        end(rt, b"; fields are separated by single spaces.");
+            number,
+            format_args!("field {} has a tab", text::ordinal(scan.line, scan.at)),
+        ),
+        None => tell(rt, number, format_args!("{field} {words}")),
     }
 }
 
-// Whether a field that begins the line begins with the bytes of a byte order mark.
-fn is_marked(word: &[u8], at: usize) -> bool {
-    if 0 < at {
-        return false;
+fn oddity(scan: &Scan<'_>) -> Option<Odd> {
+    if scan.line.len() < scan.at {
+        return None;
     }
-    if word.len() < 3 {
-        return false;
+    let word = text::field_bytes(scan.line, scan.at);
+    if word.is_empty() {
+        return Some(Odd::Empty);
     }
-    if word[0] != 239 {
-        return false;
+    if scan.at == 0 && word.starts_with(b"\xef\xbb\xbf") {
+        return Some(Odd::Marked);
     }
-    if word[1] != 187 {
-        return false;
-    }
-    word[2] == 191
+    word.contains(&b'\t').then_some(Odd::Tab)
 }
 
-fn begin(rt: &impl Eprint, number: u64) {
-    count(rt, b"line ", number);
-    say(rt, b": ");
+// Tells the space that makes the field empty.
+fn tell_empty(rt: &impl Eprint, number: u64, scan: &Scan<'_>) {
+    if scan.line.is_empty() {
+        tell(rt, number, "the line is empty.");
+    } else if scan.at == 0 {
+        tell(rt, number, "the line begins with a space.");
+    } else if scan.at == scan.line.len() {
+        tell(rt, number, "the line ends with a space.");
+    } else {
+        let before = text::ordinal(scan.line, scan.at - 1);
+        tell_spaces(rt, number, format_args!("two spaces follow field {before}"));
+    }
 }
 
-fn end(rt: &impl Eprint, words: &[u8]) {
-    say(rt, words);
-    say(rt, b"\n");
+fn tell_spaces(rt: &impl Eprint, number: u64, words: impl Display + Drop) {
+    tell(
+        rt,
+        number,
+        format_args!("{words}; fields are separated by single spaces."),
+    );
 }

@@ -1,92 +1,133 @@
 // The lists of names and words: of the events, of the cases that their fields name, of cycles, refusals
-// and the settings' checks. An entry is a name, then for an event the name and a sign of each field,
-// then `:` and the words. docs/EVENTS.md says what each means, and program `page` holds it to these
-// lists. No public function has a `requires`.
-//
-// The signs of an event's fields:
-//   #           a number
-//   ?           a number that may be absent: a word that is 0 or 1, and the number
-//   t T         a tag, and one that may be absent: what `runs` shows first
-//   m s p r     a kind of message, a slot, a purpose, a role
-//   e           a kind of evidence: what `runs` shows second
-//   x c w k     a reason, a cause, why a link is closed, what calls for a start
-//   0           always 0, and no word of the log
+// and the settings' checks. docs/EVENTS.md says what each means, and program `page` holds it to these
+// lists. No function has a `requires`.
 #![tactic(auto)]
+
+ghost use Rattle.std.specs.Prelude.{◌≡◌, length, ltb};
+ghost use Rattle.std.specs.Option.{is_some};
+ghost use Rattle.text_lists.specs.Lists.{events_count, first_of, count_of, has, width_of};
 
 mod words;
 
-// The lists.
-pub const EVENTS: u8 = 0;
+// The lists but that of the events.
+#[derive(Clone, Copy, PartialEq, Eq)]
+pub enum List {
+    Messages,
+    Slots,
+    Purposes,
+    Roles,
+    Evidence,
+    Reasons,
+    Causes,
+    Teardowns,
+    Starts,
+    Cycles,
+    Waits,
+    Refusals,
+    Places,
+}
 
-pub const MESSAGES: u8 = 1;
+// What a field of an event tells, and how many words of the log it takes: a number or a tag, one that may
+// be absent (a word that is 0 or 1, and the number), a case of a list, or what is always 0 and is no
+// word of the log.
+#[derive(Clone, Copy, PartialEq, Eq)]
+pub enum Sign {
+    Number,
+    MayNumber,
+    Tag,
+    MayTag,
+    Case(List),
+    Zero,
+}
 
-pub const SLOTS: u8 = 2;
+// A name, and what it means in words.
+#[derive(Clone, Copy)]
+pub struct Entry {
+    pub name: &'static [u8],
+    pub words: &'static [u8],
+}
 
-pub const PURPOSES: u8 = 3;
+#[derive(Clone, Copy)]
+pub struct Field {
+    pub name: &'static [u8],
+    pub sign: Sign,
+}
 
-pub const ROLES: u8 = 4;
+#[derive(Clone, Copy)]
+pub struct Event {
+    pub entry: Entry,
+    pub fields: &'static [Field],
+}
 
-pub const EVIDENCE: u8 = 5;
+// What stands for a number that a list has not, and for an event that there is not.
+pub const UNKNOWN: Entry = Entry {
+    name: b"unknown",
+    words: b"no such number",
+};
 
-pub const REASONS: u8 = 6;
+pub const UNKNOWN_EVENT: Event = Event {
+    entry: UNKNOWN,
+    fields: &[],
+};
 
-pub const CAUSES: u8 = 7;
-
-pub const TEARDOWNS: u8 = 8;
-
-pub const STARTS: u8 = 9;
-
-pub const CYCLES: u8 = 10;
-
-pub const WAITS: u8 = 11;
-
-pub const REFUSALS: u8 = 12;
-
-pub const PLACES: u8 = 13;
-
-pub const LISTS: u8 = 14;
-
-// No entry is longer.
-pub const ENTRY: usize = 160;
-
-// Puts entry `number` of a list to the front of `to`, with a newline behind it.
-pub fn entry(list: u8, number: u64, to: &mut [u8]) {
-    match list {
-        EVENTS => words::events(number, to),
-        MESSAGES => words::messages(number, to),
-        SLOTS => words::slots(number, to),
-        PURPOSES => words::purposes(number, to),
-        ROLES => words::roles(number, to),
-        EVIDENCE => words::evidence(number, to),
-        REASONS => words::reasons(number, to),
-        _ => entry_of_link(list, number, to),
+impl Event {
+    // Event `number`.
+    pub fn get(number: u64) -> Option<&'static Event>
+        ensures { is_some result ≡ ltb number events_count }
+    {
+        words::EVENTS.get(usize::try_from(number).ok()?)
     }
 }
 
-fn entry_of_link(list: u8, number: u64, to: &mut [u8]) {
-    match list {
-        CAUSES => words::causes(number, to),
-        TEARDOWNS => words::teardowns(number, to),
-        STARTS => words::starts(number, to),
-        CYCLES => words::cycles(number, to),
-        WAITS => words::waits(number, to),
-        REFUSALS => words::refusals(number, to),
-        _ => words::places(number, to),
+impl List {
+    // The number of its first entry.
+    pub fn first(self) -> u64
+        ensures { result ≡ first_of self }
+    {
+        match self {
+            List::Refusals | List::Places => 1,
+            _ => 0,
+        }
+    }
+
+    // Entry `number`.
+    pub fn get(self, number: u64) -> Option<&'static Entry>
+        ensures { is_some result ≡ has self number }
+    {
+        let place = number.checked_sub(self.first())?;
+        self.entries().get(usize::try_from(place).ok()?)
+    }
+
+    fn entries(self) -> &'static [Entry]
+        ensures { length result.now ≡ count_of self }
+    {
+        match self {
+            List::Messages => &words::MESSAGES,
+            List::Slots => &words::SLOTS,
+            List::Purposes => &words::PURPOSES,
+            List::Roles => &words::ROLES,
+            List::Evidence => &words::EVIDENCE,
+            List::Reasons => &words::REASONS,
+            List::Causes => &words::CAUSES,
+            List::Teardowns => &words::TEARDOWNS,
+            List::Starts => &words::STARTS,
+            List::Cycles => &words::CYCLES,
+            List::Waits => &words::WAITS,
+            List::Refusals => &words::REFUSALS,
+            List::Places => &words::PLACES,
+        }
     }
 }
 
-// The list of a sign that stands for a case, or LISTS.
-pub fn list_of(sign: u8) -> u8 {
-    match sign {
-        b'm' => MESSAGES,
-        b's' => SLOTS,
-        b'p' => PURPOSES,
-        b'r' => ROLES,
-        b'e' => EVIDENCE,
-        b'x' => REASONS,
-        b'c' => CAUSES,
-        b'w' => TEARDOWNS,
-        b'k' => STARTS,
-        _ => LISTS,
+impl Sign {
+    // How many words of the log a field takes.
+    pub fn width(self) -> usize
+        ensures { result ≡ width_of self }
+    {
+        match self {
+            Sign::Zero => 0,
+            Sign::MayNumber | Sign::MayTag => 2,
+            _ => 1,
+        }
     }
 }

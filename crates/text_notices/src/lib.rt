@@ -1,14 +1,18 @@
 // The notices on a row of arguments. Each promises its call's definition at what the row holds. No
-// function has a `requires`.
+// function has a `requires`. Each notice reads its instant, worker flag and spread itself: a shared reader would hand
+// back a tuple to take apart, which is no shorter. The state, the settings and the profile are passed one by one, as
+// crate notice takes them.
 #![tactic(auto)]
 
 ghost use Rattle.answer.specs.Answers.{Answers};
+ghost use Rattle.text_words.specs.Calls.{call_no};
 ghost use Rattle.text_notices.specs.Notices.{worker_on, delegated_on, undelegated_on, data_sent_on, path_on, notice_on};
 
 use answer::Answer;
 use settings::Config;
 use state::{Profile, State};
 use text_args::ARGS;
+use text_words::Call;
 
 pub mod place;
 
@@ -109,28 +113,23 @@ pub fn path(
     notice::path(s, cfg, profile, time, workers, spread, reachable, srtt, log)
 }
 
-// The notice of that number; any number past them is `PATH`.
+// The notice of that call; any other call is taken for `Path`.
+#[tactic(auto, unfolding(crate::specs::Notices::notice_on))]
 pub fn notice(
     s: State,
     cfg: Config,
     profile: Profile,
-    call: u8,
+    call: Call,
     a: &[u64; ARGS],
     log: &mut [u64; 768],
 ) -> Answer
-    ensures { Answers (notice_on call s cfg profile a.now) result log.old log.new }
+    ensures { Answers (notice_on (call_no call) s cfg profile a.now) result log.old log.new }
 {
-    if call == text_words::WORKER {
-        return worker(s, cfg, profile, a, log);
+    match call {
+        Call::Worker => worker(s, cfg, profile, a, log),
+        Call::Delegated => delegated(s, cfg, profile, a, log),
+        Call::Undelegated => undelegated(s, cfg, profile, a, log),
+        Call::DataSent => data_sent(s, cfg, profile, a, log),
+        _ => path(s, cfg, profile, a, log),
     }
-    if call == text_words::DELEGATED {
-        return delegated(s, cfg, profile, a, log);
-    }
-    if call == text_words::UNDELEGATED {
-        return undelegated(s, cfg, profile, a, log);
-    }
-    if call == text_words::DATASENT {
-        return data_sent(s, cfg, profile, a, log);
-    }
-    path(s, cfg, profile, a, log)
 }

@@ -1,61 +1,48 @@
-// Settings and a profile into their rows, in the order of the replay format.
+// What is given beside a state, in the order of the replay format.
+use crate::Record;
 use settings::Config;
 use state::Profile;
-use text_form::put;
+use text::Fault;
+use text_form::{Fields, Slot};
 
-pub fn keep_config(v: &mut [u64], cfg: Config) {
-    let a = put(v, 0, cfg.after);
-    let b = put(v, a, cfg.jitter as u64);
-    let c = put(v, b, cfg.messages);
-    let d = put(v, c, cfg.handshake);
-    let e = put(v, d, cfg.check);
-    keep_windows(v, e, cfg);
+impl Record for Config {
+    fn fields<F: Fields>(&mut self, f: &mut F) -> Result<(), Fault> {
+        f.field(b"after", Slot::Number(&mut self.after))?;
+        f.field(b"jitter", Slot::Half(&mut self.jitter))?;
+        f.field(b"messages", Slot::Number(&mut self.messages))?;
+        f.field(b"handshake", Slot::Number(&mut self.handshake))?;
+        f.field(b"check", Slot::Number(&mut self.check))?;
+        f.field(b"drain", Slot::Number(&mut self.drain))?;
+        f.field(b"retention", Slot::Number(&mut self.retention))?;
+        f.field(b"hold", Slot::Number(&mut self.hold))?;
+        f.field(b"revert", Slot::Number(&mut self.revert))?;
+        f.field(b"dampening", Slot::Number(&mut self.dampening))?;
+        f.field(b"ttl", Slot::Number(&mut self.ttl))?;
+        age_fields(self, f)
+    }
 }
 
-fn keep_windows(v: &mut [u64], i: usize, cfg: Config) {
-    let a = put(v, i, cfg.drain);
-    let b = put(v, a, cfg.retention);
-    let c = put(v, b, cfg.hold);
-    let d = put(v, c, cfg.revert);
-    let e = put(v, d, cfg.dampening);
-    let f = put(v, e, cfg.ttl);
-    keep_ages(v, f, cfg);
+fn age_fields(cfg: &mut Config, f: &mut impl Fields) -> Result<(), Fault> {
+    f.field(b"young", Slot::Number(&mut cfg.young))?;
+    f.field(b"link_age", Slot::Number(&mut cfg.link_age))?;
+    f.field(b"session_age", Slot::Number(&mut cfg.session_age))?;
+    f.field(b"floor_link", Slot::Number(&mut cfg.floor_link))?;
+    f.field(b"floor_session", Slot::Number(&mut cfg.floor_session))?;
+    f.field(b"floor_cutover", Slot::Number(&mut cfg.floor_cutover))?;
+    f.field(b"silence", Slot::Number(&mut cfg.silence))?;
+    f.field(b"resends", Slot::Byte(&mut cfg.resends, u8::MAX))?;
+    f.field(b"soft", Slot::Number(&mut cfg.soft))?;
+    f.field(b"hard", Slot::Number(&mut cfg.hard))?;
+    f.field(b"delay", Slot::Number(&mut cfg.delay))?;
+    f.field(b"arrival", Slot::Flag(&mut cfg.arrival))
 }
 
-fn keep_ages(v: &mut [u64], i: usize, cfg: Config) {
-    let a = put(v, i, cfg.young);
-    let b = put(v, a, cfg.link_age);
-    let c = put(v, b, cfg.session_age);
-    let d = put(v, c, cfg.floor_link);
-    let e = put(v, d, cfg.floor_session);
-    let f = put(v, e, cfg.floor_cutover);
-    keep_limits(v, f, cfg);
-}
-
-fn keep_limits(v: &mut [u64], i: usize, cfg: Config) {
-    let a = put(v, i, cfg.silence);
-    let b = put(v, a, cfg.resends as u64);
-    let c = put(v, b, cfg.soft);
-    let d = put(v, c, cfg.hard);
-    let e = put(v, d, cfg.delay);
-    text_form::put_flag(v, e, cfg.arrival);
-}
-
-pub fn keep_profile(v: &mut [u64], p: Profile) {
-    let a = put(v, 0, p.messages);
-    let b = text_form::put_flag(v, a, p.at_proof);
-    let c = text_form::put_flag(v, b, p.silence);
-    let d = text_form::put_flag(v, c, p.smaller);
-    put(v, d, p.floor);
-}
-
-// The profile of a list that names none: two messages, and all else off or 0.
-pub fn plain_profile() -> Profile {
-    Profile {
-        messages: 2,
-        at_proof: false,
-        silence: false,
-        smaller: false,
-        floor: 0,
+impl Record for Profile {
+    fn fields<F: Fields>(&mut self, f: &mut F) -> Result<(), Fault> {
+        f.field(b"messages", Slot::Number(&mut self.messages))?;
+        f.field(b"at_proof", Slot::Flag(&mut self.at_proof))?;
+        f.field(b"silence", Slot::Flag(&mut self.silence))?;
+        f.field(b"smaller", Slot::Flag(&mut self.smaller))?;
+        f.field(b"floor", Slot::Number(&mut self.floor))
     }
 }

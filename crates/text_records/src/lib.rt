@@ -1,11 +1,14 @@
-// The settings, the profile and the state of a row as records, and a state into a row. No public
-// function has a `requires`.
+// The settings, the profile and the state, field by field: one list of the fields of each record, for
+// whoever reads, writes or names them. No function has a `requires`.
 #![tactic(auto)]
 
-mod build;
+mod blank;
+mod fields;
 mod given;
-mod store;
+mod parts;
+mod record;
 
-pub use build::{config_of, profile_of, state_of};
-pub use given::{keep_config, keep_profile, plain_profile};
-pub use store::keep;
+pub use blank::{blank_state, plain_profile};
+pub use fields::read_state;
+pub use parts::{Part, name_part};
+pub use record::{Record, name_record, read_record};

@@ -1,219 +1,136 @@
-// The state of a row as a line of the replay format. No public function has a `requires`.
+// The state as a line of the replay format. No function has a `requires`.
 #![tactic(auto)]
 
-use text_form::places;
+use epoch::{Final, MayLadder};
+use ladder::Ladder;
+use state::State;
+use text::Fault;
+use text_form::{Fields, KINDS, Slot};
 use text_lines::Output;
+use text_records::Record;
 
-// The output so far, and the next place of the row.
-#[derive(Clone, Copy)]
-struct Pen {
-    o: Output,
-    at: usize,
+// Writes what stands behind the word `state`. Of a ladder only the offsets below its length are written,
+// and its keepalive map whole, as the Rust shows it.
+pub fn write_state<R: Print>(out: &mut Output<'_, '_, R>, s: State) {
+    let mut writer = Writer { out, first: true };
+    write_fields(&mut writer, s);
 }
 
-// Writes what stands behind the word `state`: no fields of an absent record, only the case in which
-// the cycle is, and the candidates and offsets below the length. A keepalive map is written whole, as
-// the Rust shows it.
-pub fn write_state(rt: &impl Print, out: &mut [u8], o: Output, v: &[u64]) -> Output {
-    let pen = Pen {
-        o: o,
-        at: text_form::MEMORY,
-    };
-    let epochs = write_epochs(rt, out, pen, v);
-    let cycle = write_cycle(rt, out, epochs, v);
-    write_candidates(rt, out, cycle, v).o
+fn write_fields<R: Print>(writer: &mut Writer<'_, '_, '_, R>, s: State) {
+    let mut shown = s;
+    let _ = shown.fields(writer);
 }
 
-// The memory, the current epoch and the drained one.
-fn write_epochs(rt: &impl Print, out: &mut [u8], pen: Pen, v: &[u64]) -> Pen {
-    let mem = write_named(rt, out, pen, b"mem", text_words::MEMORY, v);
-    let cur = write_epoch(rt, out, mem, b" cur", text_words::EPOCH, v);
-    let mut next = cur;
-    next.at = text_form::DRAINED;
-    write_epoch(rt, out, next, b" drain", text_words::DRAIN, v)
+// The output, and whether nothing was written yet.
+#[derive(Drop)]
+struct Writer<'w, 'r, 'b, R> {
+    out: &'w mut Output<'r, 'b, R>,
+    first: bool,
 }
 
-fn write_named(rt: &impl Print, out: &mut [u8], pen: Pen, word: &[u8], part: u8, v: &[u64]) -> Pen {
-    let named = write_bytes(rt, out, pen, word);
-    write_part(rt, out, named, part, v)
-}
-
-// An epoch that may be absent.
-fn write_epoch(rt: &impl Print, out: &mut [u8], pen: Pen, word: &[u8], part: u8, v: &[u64]) -> Pen {
-    let named = write_bytes(rt, out, pen, word);
-    let there = write_presence(rt, out, named, v);
-    if text_form::get(v, pen.at) == 1 {
-        return write_part(rt, out, there, part, v);
-    }
-    there
-}
-
-fn write_cycle(rt: &impl Print, out: &mut [u8], pen: Pen, v: &[u64]) -> Pen {
-    let mut from = pen;
-    from.at = text_form::CASE;
-    match text_form::get(v, text_form::KIND) {
-        1 => write_named(rt, out, from, b" cycle init", text_words::INIT, v),
-        2 => write_named(rt, out, from, b" cycle pendi", text_words::PENDI, v),
-        3 => write_named(rt, out, from, b" cycle pendr", text_words::PENDR, v),
-        _ => write_bytes(rt, out, from, b" cycle idle"),
-    }
-}
-
-fn write_candidates(rt: &impl Print, out: &mut [u8], pen: Pen, v: &[u64]) -> Pen {
-    let mut from = pen;
-    from.at = text_form::NEXT;
-    let counted = write_named(rt, out, from, b" cands", text_words::CANDIDATES, v);
-    write_held(
-        rt,
-        out,
-        counted,
-        text_form::least_of(text_form::get(v, text_form::COUNT), 32),
-        v,
-    )
-}
-
-fn write_held(rt: &impl Print, out: &mut [u8], pen: Pen, n: u64, v: &[u64]) -> Pen {
-    let mut next = pen;
-    let mut i: u64 = 0;
-    while i < n {
-        next = write_part(rt, out, next, text_words::CANDIDATE, v);
-        i += 1;
-    }
-    next
-}
-
-fn write_part(rt: &impl Print, out: &mut [u8], pen: Pen, part: u8, v: &[u64]) -> Pen {
-    let mut e = [0u8; text_words::ENTRY];
-    text_words::entry(part, &mut e);
-    write_entry(rt, out, pen, &e, v)
-}
-
-fn write_entry(rt: &impl Print, out: &mut [u8], pen: Pen, e: &[u8], v: &[u64]) -> Pen {
-    let mut next = pen;
-    let mut at = text_words::first(e);
-    let mut i: usize = 0;
-    while i < text_form::MOST {
-        let a = text_words::argument_at(e, at);
-        if !a.some {
-            return next;
+impl<R: Print> Fields for Writer<'_, '_, '_, R> {
+    fn field(&mut self, name: &'static [u8], slot: Slot<'_>) -> Result<(), Fault> {
+        if let Slot::Word = slot {
+            self.word(name);
+        } else {
+            self.write(slot);
         }
-        next = write_one(rt, out, next, a.letter, v);
-        at = a.next;
-        i += 1;
-    }
-    next
-}
-
-fn write_one(rt: &impl Print, out: &mut [u8], pen: Pen, letter: u8, v: &[u64]) -> Pen {
-    match letter {
-        b'l' => write_ladder(rt, out, pen, v),
-        b'L' => write_may_ladder(rt, out, pen, v),
-        b'F' => write_final(rt, out, pen, v),
-        b's' => write_signed(rt, out, pen, v),
-        b'o' | b'w' | b'k' => write_optional(rt, out, pen, v),
-        _ => write_number(rt, out, pen, v),
+        Ok(())
     }
 }
 
-fn write_may_ladder(rt: &impl Print, out: &mut [u8], pen: Pen, v: &[u64]) -> Pen {
-    let there = write_presence(rt, out, pen, v);
-    let after = text_form::after(pen.at, places::MAY_LADDER);
-    if text_form::get(v, pen.at) == 1 {
-        return moved(write_ladder(rt, out, there, v), after);
+impl<R: Print> Writer<'_, '_, '_, R> {
+    fn write(&mut self, slot: Slot<'_>) {
+        match slot {
+            Slot::Number(n) => self.number(*n),
+            Slot::Byte(n, _) => self.number(u64::from(*n)),
+            Slot::Half(n) => self.number(u64::from(*n)),
+            Slot::Count(n) => self.number(*n as u64),
+            Slot::Flag(on) => self.number(u64::from(*on)),
+            Slot::Signed(n) => self.signed(*n),
+            Slot::Bit(b) => self.optional(b.some, u64::from(b.on)),
+            Slot::When(w) => self.optional(w.some, w.at),
+            Slot::Index(x) => self.optional(x.some, u64::from(x.index)),
+            Slot::Ladder(l) => self.ladder(*l),
+            Slot::MayLadder(l) => self.may_ladder(*l),
+            Slot::Final(f) => self.fin(*f),
+            Slot::Word => (),
+            Slot::There(there) => self.there(*there),
+            Slot::Cycle(kind) => self.word(kind_word(*kind)),
+        }
     }
-    moved(there, after)
-}
 
-fn write_final(rt: &impl Print, out: &mut [u8], pen: Pen, v: &[u64]) -> Pen {
-    let there = write_presence(rt, out, pen, v);
-    let after = text_form::after(pen.at, places::FINAL);
-    if text_form::get(v, pen.at) == 1 {
-        let msg = write_number(rt, out, there, v);
-        return moved(write_ladder(rt, out, msg, v), after);
+    // The word, with a space before it unless it is the first.
+    fn word(&mut self, word: &[u8]) {
+        if !self.first {
+            self.out.bytes(b" ");
+        }
+        self.first = false;
+        self.out.bytes(word);
     }
-    moved(there, after)
-}
 
-fn moved(pen: Pen, at: usize) -> Pen {
-    let mut next = pen;
-    next.at = at;
-    next
-}
-
-fn write_bytes(rt: &impl Print, out: &mut [u8], pen: Pen, s: &[u8]) -> Pen {
-    let o = pen.o.bytes(rt, out, s);
-    let mut next = pen;
-    next.o = o;
-    next
-}
-
-fn write_presence(rt: &impl Print, out: &mut [u8], pen: Pen, v: &[u64]) -> Pen {
-    let mut next = pen;
-    next.at = text_form::after(pen.at, 1);
-    if text_form::get(v, pen.at) == 1 {
-        return write_bytes(rt, out, next, b" +");
+    fn number(&mut self, n: u64) {
+        self.out.bytes(b" ");
+        self.out.number(n);
     }
-    write_bytes(rt, out, next, b" -")
-}
 
-// ` ` and a number.
-fn write_value(rt: &impl Print, out: &mut [u8], pen: Pen, n: u64) -> Pen {
-    let spaced = pen.o.bytes(rt, out, b" ");
-    let o = spaced.number(rt, out, n);
-    let mut next = pen;
-    next.o = o;
-    next
-}
-
-fn write_number(rt: &impl Print, out: &mut [u8], pen: Pen, v: &[u64]) -> Pen {
-    let mut next = pen;
-    next.at = text_form::after(pen.at, 1);
-    write_value(rt, out, next, text_form::get(v, pen.at))
-}
-
-fn write_optional(rt: &impl Print, out: &mut [u8], pen: Pen, v: &[u64]) -> Pen {
-    let mut next = pen;
-    next.at = text_form::after(pen.at, 2);
-    if text_form::get(v, pen.at) == 1 {
-        return write_value(rt, out, next, text_form::number_at(v, pen.at, 1));
+    fn optional(&mut self, some: bool, n: u64) {
+        if some {
+            self.number(n);
+        } else {
+            self.out.bytes(b" -");
+        }
     }
-    write_bytes(rt, out, next, b" -")
-}
 
-fn write_signed(rt: &impl Print, out: &mut [u8], pen: Pen, v: &[u64]) -> Pen {
-    let n = text_form::get(v, pen.at);
-    let mut next = pen;
-    next.at = text_form::after(pen.at, 1);
-    if 2147483648 <= n {
-        return write_value(rt, out, next, n - 2147483648);
+    fn signed(&mut self, n: i32) {
+        if n < 0 {
+            self.out.bytes(b" -");
+            self.out.number(u64::from(n.unsigned_abs()));
+        } else {
+            self.number(u64::from(n.unsigned_abs()));
+        }
     }
-    let minus = next.o.bytes(rt, out, b" -");
-    let o = minus.number(rt, out, 2147483648 - n);
-    next.o = o;
-    next
-}
 
-// The offsets below the length.
-fn write_ladder(rt: &impl Print, out: &mut [u8], pen: Pen, v: &[u64]) -> Pen {
-    let len = text_form::number_at(v, pen.at, 2);
-    let counted = write_numbers(rt, out, pen, 4, v);
-    let mut past = write_numbers(
-        rt,
-        out,
-        counted,
-        text_form::least_of(len, text_form::OFFSETS),
-        v,
-    );
-    past.at = text_form::after(pen.at, text_form::LADDER);
-    past
-}
-
-fn write_numbers(rt: &impl Print, out: &mut [u8], pen: Pen, n: u64, v: &[u64]) -> Pen {
-    let mut next = pen;
-    let mut i: u64 = 0;
-    while i < n {
-        next = write_number(rt, out, next, v);
-        i += 1;
+    fn there(&mut self, there: bool) {
+        if there {
+            self.out.bytes(b" +");
+        } else {
+            self.out.bytes(b" -");
+        }
     }
-    next
+
+    fn may_ladder(&mut self, may: MayLadder) {
+        self.there(may.some);
+        if may.some {
+            self.ladder(may.ladder);
+        }
+    }
+
+    fn fin(&mut self, fin: Final) {
+        self.there(fin.some);
+        if fin.some {
+            self.number(fin.msg);
+            self.ladder(fin.ladder);
+        }
+    }
+
+    fn ladder(&mut self, l: Ladder) {
+        self.number(l.origin);
+        self.number(u64::from(l.next));
+        self.number(u64::from(l.sched.len));
+        self.number(l.sched.keepalive);
+        for at in l.sched.at.iter().take(l.sched.len as usize) {
+            self.number(*at);
+        }
+    }
+}
+
+// The word for a kind of the cycle; any other number counts as idle.
+fn kind_word(kind: u8) -> &'static [u8] {
+    let place = kind as usize;
+    if place < KINDS.len() {
+        KINDS[place]
+    } else {
+        b"idle"
+    }
 }

@@ -25,29 +25,19 @@ impl<I: Read, F: Read> Read for Source<I, F> {
 
 // How many arguments stand behind the program's name.
 pub fn count(rt: &impl Env) -> usize {
-    let mut n: usize = 0;
-    for i in 1..usize::MAX {
-        if !is_there(rt, i) {
-            return n;
-        }
-        n = i;
-    }
-    n
+    (1..usize::MAX).take_while(|i| is_there(rt, *i)).count()
 }
 
 fn is_there(rt: &impl Env, i: usize) -> bool {
     let mut name = [0u8; 1];
-    match rt.arg(i, &mut name) {
-        Err(FillError::NotPresent) => false,
-        _ => true,
-    }
+    !matches!(rt.arg(i, &mut name), Err(FillError::NotPresent))
 }
 
 // Whether argument `i` asks for help.
 pub fn is_help(rt: &impl Env, i: usize) -> bool {
     let mut name = [0u8; 4096];
     match rt.arg(i, &mut name) {
-        Ok(n) => text::place_of(b"--help -h", &name[..n]).some,
+        Ok(n) => matches!(&name[..n], b"--help" | b"-h"),
         Err(_) => false,
     }
 }
@@ -70,7 +60,7 @@ fn open_bytes<R: Files + Input + Eprint + Alloc>(
     rt: &R,
     name: &[u8],
 ) -> Option<Source<R::Reader, R::File>> {
-    if text::place_of(b"-", name).some {
+    if matches!(name, b"-") {
         return Some(Source::Standard(rt.reader()));
     }
     match str::from_utf8(name) {

@@ -1,204 +1,176 @@
-// The one list of calls, settings and records: what each line of a program can name. An entry is the
-// line's name and then, for each argument, its name, a letter and its default. `replay` reads the
-// arguments by place and `runs` by name. No public function has a `requires`.
-//
-// The letters:
-//   n b h f c   a number below 2^64, below 2^8, below 2^16, 0 or 1, at most 2
-//   s           a number from -2^31 to 2^31 - 1
-//   o w k       a number, a number below 2^32, 0 or 1; or none
-//   l           a ladder: origin, next, length, keepalive map and offsets
-//   L           a ladder, or none
-//   F           a message and its ladder, or none
-//   x           a buffer: in hex by place, its length up to 65536 by name
-//   r           0 or 1 by place; by name one of two words, which stand for 1 and 0. Its name is what
-//               the two are called, `:`, and the two with `|` between them
-// The defaults:
-//   a number, or `-` for none
-//   !           none: the argument stands by place in both programs
-//   ?           by place in `runs`, where it may be left out; not in `replay`
-//   .           the value stays what it was: the settings' so far, or that of a record as it was made
-//   @           the tag of the current epoch; of a frame, that of the epoch in its slot
+// The one list of calls: what a line of a program can name. `replay` reads the arguments of a call by
+// place and `runs` by name. No function has a `requires`.
 #![tactic(auto)]
 
-mod names;
-mod walk;
+ghost use Rattle.std.specs.Prelude.{◌≡◌, IfSome, true};
+ghost use Rattle.std.specs.Option.{is_some};
+ghost use Rattle.text.specs.Scans.{accept_at, place_where};
+ghost use Rattle.text_words.specs.Places.{width_of, widths, has_place};
+ghost use Rattle.text_words.specs.Words.{name_of, places_of, has_choice};
 
-pub use names::{put_calls, put_choice, put_choice_name, put_name, put_names};
-pub use walk::{
-    Argument, Choice, accept, argument_at, by_place, call, choice_of, default_sign, default_value,
-    first,
-};
-// The calls.
-pub const OPEN: u8 = 0;
+mod tables;
 
-pub const POLL: u8 = 1;
+use text::Scan;
 
-pub const FRAME: u8 = 2;
-
-pub const REPLY: u8 = 3;
-
-pub const SENT: u8 = 4;
-
-// The notices.
-pub const WORKER: u8 = 5;
-
-pub const DELEGATED: u8 = 6;
-
-pub const UNDELEGATED: u8 = 7;
-
-pub const DATASENT: u8 = 8;
-
-pub const PATH: u8 = 9;
-
-// The calls that hand no state back.
-pub const WAKE: u8 = 10;
-
-pub const STATUS: u8 = 11;
-
-// How many calls there are.
-pub const CALLS: u8 = 12;
-
-// What is given beside a call, and the records of a state.
-pub const SETTINGS: u8 = CALLS;
-
-pub const PROFILE: u8 = CALLS + 1;
-
-pub const MEMORY: u8 = CALLS + 2;
-
-pub const EPOCH: u8 = CALLS + 3;
-
-pub const DRAIN: u8 = CALLS + 4;
-
-pub const INIT: u8 = CALLS + 5;
-
-pub const PENDI: u8 = CALLS + 6;
-
-pub const PENDR: u8 = CALLS + 7;
-
-pub const CANDIDATES: u8 = CALLS + 8;
-
-pub const CANDIDATE: u8 = CALLS + 9;
-
-// A block of `replay`, and whether `runs` explains.
-pub const BLOCK: u8 = CALLS + 10;
-
-pub const EXPLAIN: u8 = CALLS + 11;
-
-// No entry is longer, with the space behind it.
-pub const ENTRY: usize = 512;
-
-// Puts the entry of a line to the front of `to`, and a space behind it.
-pub fn entry(part: u8, to: &mut [u8]) {
-    let end = copy(part, to);
-    text_lines::put(to, end, b" ");
+#[derive(Clone, Copy, PartialEq, Eq)]
+pub enum Call {
+    Open,
+    Poll,
+    Frame,
+    Reply,
+    Sent,
+    // The notices.
+    Worker,
+    Delegated,
+    Undelegated,
+    DataSent,
+    Path,
+    // The calls that hand no state back.
+    Wake,
+    Status,
 }
 
-fn copy(part: u8, to: &mut [u8]) -> usize {
-    if part < CALLS {
-        return copy_call(part, to);
-    }
-    match part {
-        SETTINGS | PROFILE => copy_given(part, to),
-        EPOCH => copy_epoch(to, b"current", b""),
-        DRAIN => copy_epoch(to, b"drained", b" deadline n . evidenced f ."),
-        PENDI => copy_epoch(
-            to,
-            b"pendi",
-            b" wait c . deadline n . restart f . final F . probes L . probed o . stayed f . reverted f .",
-        ),
-        PENDR => copy_epoch(to, b"pendr", b" deadline n . restart f . answer o ."),
-        _ => copy_record(part, to),
-    }
+// What an argument's value can be.
+#[derive(Clone, Copy)]
+pub enum Kind {
+    // A number up to this.
+    Number(u64),
+    // A number from -2^31 to 2^31 - 1.
+    Signed,
+    // A number up to this, or none.
+    Optional(u64),
+    // A buffer: in hex by place, its length up to this by name.
+    Buffer(u64),
+    // 0 or 1 by place; by name one of two words, which stand for 1 and 0.
+    Choice(Words),
 }
 
-fn copy_call(call: u8, to: &mut [u8]) -> usize {
-    match call {
-        OPEN => start(
-            to,
-            b"open now n ! role:responder|initiator r 1 transport n 0 lease w - workers f 0 spread s 0",
-        ),
-        POLL => start(to, b"poll now n ! workers f 0 spread s 0 extra s 0"),
-        FRAME => start(
-            to,
-            b"frame now n ! slot b 0 tag n @ counter n 0 k f 0 len n 0 probe f 0 body n 0 workers f 0 spread s 0 target x 65536 source x 65536",
-        ),
-        REPLY => start(
-            to,
-            b"reply now n ! reply:opened|failed r 1 hs n 0 msg n 0 transport n 0 lease w -",
-        ),
-        SENT => start(to, b"sent now n ! count n !"),
-        WAKE => start(to, b"wake now n ?"),
-        STATUS => start(to, b"status now n !"),
-        _ => copy_notice(call, to),
-    }
+// The two words of a choice, that for 1 first, and what they are called.
+#[derive(Clone, Copy)]
+pub struct Words {
+    pub one: &'static [u8],
+    pub zero: &'static [u8],
+    pub what: &'static str,
 }
 
-fn copy_notice(call: u8, to: &mut [u8]) -> usize {
-    match call {
-        WORKER => start(
-            to,
-            b"worker now n ! workers f 0 spread s 0 tag n @ k f 0 counter n 0",
-        ),
-        DELEGATED => start(to, b"delegated now n ! workers f 0 spread s 0 tag n @"),
-        UNDELEGATED => start(to, b"undelegated now n ! workers f 0 spread s 0 tag n @"),
-        DATASENT => start(to, b"datasent now n ! workers f 0 spread s 0"),
-        _ => start(
-            to,
-            b"path now n ! workers f 0 spread s 0 reachable f 1 srtt o -",
-        ),
-    }
+// What an argument that a line does not name is.
+#[derive(Clone, Copy, PartialEq, Eq)]
+pub enum Default {
+    // The argument stands by place in both programs, and has none.
+    Place,
+    // It stands by place in `runs`, where it may be left out; it does not stand in `replay`.
+    Kept,
+    Value(u64),
+    None,
+    // The tag of the current epoch; of a frame, that of the epoch in its slot.
+    Tag,
 }
 
-// The settings and the profile, in the order of the replay format.
-fn copy_given(part: u8, to: &mut [u8]) -> usize {
-    if part == PROFILE {
-        return start(
-            to,
-            b"profile messages n . at_proof f . silence f . smaller f . floor n .",
-        );
-    }
-    let ages = start(
-        to,
-        b"set after n . jitter h . messages n . handshake n . check n . drain n . retention n . hold n . revert n . dampening n . ttl n . young n . link_age n . session_age n .",
-    );
-    text_lines::put(
-        to,
-        ages,
-        b" floor_link n . floor_session n . floor_cutover n . silence n . resends b . soft n . hard n . delay n . arrival f .",
-    )
+#[derive(Clone, Copy)]
+pub struct Argument {
+    pub name: &'static [u8],
+    pub kind: Kind,
+    pub default: Default,
 }
 
-fn copy_record(part: u8, to: &mut [u8]) -> usize {
-    match part {
-        MEMORY => start(
-            to,
-            b"memory peer_epoch o . peer_k k . jitter s . damp o . backoff o . abandons b . last_rx o . rx_cur o . sent_data f . silence b . link_since n . last_cutover o . hs_rtt o . srtt o . setup_rto o . reachable f . due f .",
-        ),
-        INIT => start(
-            to,
-            b"init hs n . out n . lease w . transport n . first n . ladder l . deadline n . resent f .",
-        ),
-        CANDIDATES => start(to, b"candidates next n . count n ."),
-        CANDIDATE => start(
-            to,
-            b"candidate hs n . msg1 n . ack n . carrier n . route n . born n . deadline n . bound o . seq n .",
-        ),
-        BLOCK => start(to, b"block number n !"),
-        _ => start(to, b"explain on f !"),
+pub const CALLS: [Call; 12] = [
+    Call::Open,
+    Call::Poll,
+    Call::Frame,
+    Call::Reply,
+    Call::Sent,
+    Call::Worker,
+    Call::Delegated,
+    Call::Undelegated,
+    Call::DataSent,
+    Call::Path,
+    Call::Wake,
+    Call::Status,
+];
+
+impl Call {
+    // The call whose name the next field of a line is, with the scan moved past it.
+    pub fn read(scan: &mut Scan<'_>) -> Option<Call>
+        ensures named { IfSome result (λ call. accept_at scan.old.line.now scan.old.at (name_of call) ≡ true) }
+        ensures line { scan.new.line ≡ scan.old.line }
+        ensures at { scan.new.at ≡ place_where scan.old.line.now scan.old.at (is_some result) }
+    {
+        for call in CALLS {
+            if scan.accept(call.name()) {
+                return Some(call);
+            }
+        }
+        None
+    }
+
+    // The first word of the call's line.
+    pub fn name(self) -> &'static [u8]
+        ensures { result.now ≡ name_of self }
+    {
+        match self {
+            Call::Open => b"open",
+            Call::Poll => b"poll",
+            Call::Frame => b"frame",
+            Call::Reply => b"reply",
+            Call::Sent => b"sent",
+            Call::Worker => b"worker",
+            Call::Delegated => b"delegated",
+            Call::Undelegated => b"undelegated",
+            Call::DataSent => b"datasent",
+            Call::Path => b"path",
+            Call::Wake => b"wake",
+            Call::Status => b"status",
+        }
+    }
+
+    // What stands behind it, in the order by place.
+    pub fn arguments(self) -> &'static [Argument]
+        ensures { widths result.now ≡ places_of self }
+    {
+        match self {
+            Call::Open => tables::OPEN,
+            Call::Poll => tables::POLL,
+            Call::Frame => tables::FRAME,
+            Call::Reply => tables::REPLY,
+            Call::Sent => tables::SENT,
+            Call::Worker => tables::WORKER,
+            Call::Delegated | Call::Undelegated => tables::TAGGED,
+            Call::DataSent => tables::DATA_SENT,
+            Call::Path => tables::PATH,
+            Call::Wake => tables::WAKE,
+            Call::Status => tables::STATUS,
+        }
+    }
+
+    // The choice by which the arguments by name begin, if they do.
+    pub fn choice(self) -> Option<Words>
+        ensures { is_some result ≡ has_choice self }
+    {
+        match self {
+            Call::Open => Some(tables::ROLES),
+            Call::Reply => Some(tables::REPLIES),
+            _ => None,
+        }
     }
 }
 
-// A record that begins with an epoch: its name, the epoch's fields and the others.
-fn copy_epoch(to: &mut [u8], name: &[u8], others: &[u8]) -> usize {
-    let named = start(to, name);
-    let whole = text_lines::put(
-        to,
-        named,
-        b" tag n . session n . sent n . lease w . theirs w . transport n . k f . role f . base o . started n . route o . ext n . recv f . floor o . heard o . moved o . assumed f . fin F . elicit L . prompted o .",
-    );
-    text_lines::put(to, whole, others)
+impl Argument {
+    // Whether it stands by place in `runs` too.
+    pub fn by_place(&self) -> bool
+        ensures { result ≡ has_place self.now.default }
+    {
+        self.default == Default::Place || self.default == Default::Kept
+    }
 }
 
-fn start(to: &mut [u8], s: &[u8]) -> usize {
-    text_lines::put(to, 0, s)
+impl Kind {
+    // How many numbers of a row hold such a value.
+    pub fn width(self) -> usize
+        ensures { result ≡ width_of self }
+    {
+        match self {
+            Kind::Optional(_) => 2,
+            _ => 1,
+        }
+    }
 }

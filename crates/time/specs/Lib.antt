@@ -1,4 +1,5 @@
 pub mod Pick
 pub mod Lists
 pub mod Time
+pub mod Options
 pub mod Laws

@@ -3,11 +3,12 @@
 // Ported from core/src/time/mod.rs (`backoff`), ladder.rs (`later`) and machine.rs (`since`).
 #![tactic(auto)]
 
-ghost use Rattle.std.specs.Prelude.{◌≡◌, Bool, ◌+◌, ◌-◌};
-ghost use Rattle.time.specs.Pick.{pick, and as and_of};
-ghost use Rattle.time.specs.Time.{later_of, sum_of, later_by_of, sat_add, sat_mul, factor_of, backoff_of, least, most, reached_of, sooner_of, whenever as whenever_of};
+ghost use Rattle.std.specs.Prelude.{◌≡◌, ◌-◌};
+ghost use Rattle.time.specs.Options.{when_of, option_of};
+ghost use Rattle.time.specs.Time.{at as at_of, later_of, later_by_of, factor_of, backoff_of, reached_of, sooner_of};
 
-// A number that may be absent: an instant, a duration or a number of the caller.
+// A number that may be absent: an instant, a duration or a number of the caller. It stays beside `Option` since C has
+// it in the state and in calls.
 #[repr(C)]
 #[derive(Clone, Copy)]
 pub struct When {
@@ -20,59 +21,18 @@ pub const END: u64 = 18446744073709551615;
 
 // `t + d`, or `t` itself past the end of the clock's range: at the end of the range a deadline
 // falls due at once.
+#[tactic(auto, using(crate::proofs::Std::sum_or), unfolding(crate::specs::Time::later_of))]
 pub fn later(t: u64, d: u64) -> u64
     ensures { result ≡ later_of t d }
 {
-    if 18446744073709551615 - t < d {
-        return t;
-    }
-    t + d
+    t.checked_add(d).unwrap_or(t)
 }
 
-// Time from `t` to `now`, 0 if `t` is later.
+// Time from `t` to `now`, 0 if `t` is later. It stays beside std's method since its name says what the difference is.
 pub fn since(now: u64, t: u64) -> u64
     ensures { result ≡ now - t }
 {
-    if t <= now { now - t } else { 0 }
-}
-
-// `a + b`, at most 2^64 - 1.
-pub fn sat_add(a: u64, b: u64) -> u64
-    ensures { result ≡ sat_add a b }
-{
-    if b <= 18446744073709551615 - a {
-        a + b
-    } else {
-        18446744073709551615
-    }
-}
-
-// `a * b`, at most 2^64 - 1.
-pub fn sat_mul(a: u64, b: u64) -> u64
-    ensures { result ≡ sat_mul a b }
-{
-    if a == 0 {
-        return 0;
-    }
-    if b <= 18446744073709551615 / a {
-        a * b
-    } else {
-        18446744073709551615
-    }
-}
-
-// The smaller of two numbers.
-pub fn min(a: u64, b: u64) -> u64
-    ensures { result ≡ least a b }
-{
-    if a <= b { a } else { b }
-}
-
-// The larger of two numbers.
-pub fn max(a: u64, b: u64) -> u64
-    ensures { result ≡ most a b }
-{
-    if a <= b { b } else { a }
+    now.saturating_sub(t)
 }
 
 // The doubling factor, which stops at 2^32 - 1.
@@ -87,86 +47,62 @@ pub fn factor(exponent: u32) -> u64
 }
 
 // `base` doubled `exponent` times, at most `cap`.
+#[tactic(auto, using(crate::proofs::Std::mul_capped), unfolding(crate::specs::Time::backoff_of))]
 pub fn backoff(exponent: u32, base: u64, cap: u64) -> u64
     ensures { result ≡ backoff_of exponent base cap }
 {
-    min(sat_mul(base, factor(exponent)), cap)
+    base.saturating_mul(factor(exponent)).min(cap)
 }
 
-// `a + b`, absent where it passes 2^64 - 1: a duration that no instant can be moved by.
-pub fn sum(a: u64, b: u64) -> When
-    ensures { result ≡ sum_of a b }
+// `later` by a duration that may not fit.
+#[tactic(auto, unfolding(crate::specs::Time::later_by_of))]
+pub fn later_by(t: u64, d: Option<u64>) -> u64
+    ensures { result ≡ later_by_of t (when_of d) }
 {
-    if b <= 18446744073709551615 - a {
-        When {
-            some: true,
-            at: a + b,
-        }
-    } else {
-        When { some: false, at: 0 }
+    d.map_or(t, |d| later(t, d))
+}
+
+// The earlier of two instants, where both are there.
+#[tactic(auto, using(crate::proofs::Std::min_least), unfolding(crate::specs::Time::sooner_of))]
+pub fn sooner(a: Option<u64>, b: Option<u64>) -> Option<u64>
+    ensures { when_of result ≡ sooner_of (when_of a) (when_of b) }
+{
+    match (a, b) {
+        (Some(x), Some(y)) => Some(x.min(y)),
+        (Some(_), None) => a,
+        (None, _) => b,
     }
-}
-
-// `later` by a sum that may not fit.
-pub fn later_by(t: u64, d: When) -> u64
-    ensures { result ≡ later_by_of t d }
-{
-    if d.some { later(t, d.at) } else { t }
-}
-
-// Both, in order.
-pub fn and(a: bool, b: bool) -> bool
-    ensures { result ≡ and_of a b }
-{
-    if a { b } else { false }
-}
-
-// One or the other.
-pub fn either(a: bool, b: bool) -> bool
-    ensures { result ≡ pick a Bool.true b }
-{
-    if a { true } else { b }
-}
-
-// One more, at most 255.
-pub fn one_more(n: u8) -> u8
-    ensures { result ≡ least (n + 1) 255 }
-{
-    if n < 255 { n + 1 } else { 255 }
-}
-
-// A number that is there where a flag is on.
-pub fn whenever(some: bool, n: u64) -> When
-    ensures { result ≡ whenever_of some n }
-{
-    if some {
-        return When { some: true, at: n };
-    }
-    When::NONE
 }
 
 impl When {
     pub const NONE: When = When { some: false, at: 0 };
 
+    // One that is there.
+    pub const fn of(at: u64) -> When
+        ensures { result ≡ at_of at }
+    {
+        When { some: true, at }
+    }
+
+    // As an option.
+    pub fn get(self) -> Option<u64>
+        ensures { result ≡ option_of self }
+    {
+        if self.some { Some(self.at) } else { None }
+    }
+
     // Whether it is there and not after `now`.
     pub fn reached(self, now: u64) -> bool
         ensures { result ≡ reached_of self now }
     {
-        if self.some { self.at <= now } else { false }
+        self.some && self.at <= now
     }
+}
 
-    // The earlier of two, where both are there.
-    pub fn sooner(self, other: When) -> When
-        ensures { result ≡ sooner_of self other }
-    {
-        if self.some {
-            if other.some {
-                if self.at <= other.at { self } else { other }
-            } else {
-                self
-            }
-        } else {
-            other
-        }
+impl From<Option<u64>> for When {
+    ghost from_gives = { λ w t. t ≡ when_of w };
+
+    fn from(w: Option<u64>) -> When {
+        w.map_or(When::NONE, When::of)
     }
 }

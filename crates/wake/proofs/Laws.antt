@@ -10,7 +10,7 @@ use borrow.Author.Tests.{le-leb, ltb-true, ne_eqb}
 use Rattle.std.proofs.Math.Dec.{leb}
 use Rattle.time.specs.Pick.{pick}
 use Rattle.time.specs.Lists.{kept, fold}
-use Rattle.time.specs.Time.{at, reached_of}
+use Rattle.time.specs.Time.{reached_of}
 use Rattle.settings.specs.declared.Config.{Config}
 use Rattle.numbers.specs.Numbers.{item_drain, item_candidate, item_unadopted, item_held, item_probe, item_delayed, item_fin, item_elicit, item_confirm, item_delay_end, item_resend, item_expire}
 use Rattle.epoch.specs.declared.Final.{Final}

@@ -103,6 +103,13 @@ cycle_due c =
     (pick (is_pend_i c.kind) (pending_due c.pendi.wait c.pendi.deadline c.pendi.probes c.pendi.fin)
     (pick (is_pend_r c.kind) (c.pendr.deadline ∷ []) []))
 
+-- the same with the instants of an own completed attempt given
+unfoldable pub cycle_with : Cycle → List ℕ → List ℕ
+cycle_with c pending =
+    pick (is_init c.kind) (ladder_instants c.init.ladder ++ c.init.deadline ∷ [])
+    (pick (is_pend_i c.kind) pending
+    (pick (is_pend_r c.kind) (c.pendr.deadline ∷ []) []))
+
 unfoldable pub current_instants : MayEpoch → List ℕ
 current_instants e = pick e.some (fin_instants e.ep.fin ++ elicit_instants e.ep.moved.some e.ep.elicit) []
 

@@ -1,6 +1,5 @@
 -- What the wake clause of the third demand wants of a state: where the wake is absent or later than now, a poll has nothing to do.
 use Rattle.std.specs.Prelude.{ℕ}
-use mathlib.Core.List.Memᴰ
 use mathlib.Core.List.{List, map}
 use Rattle.items.specs.Items.{Item}
 

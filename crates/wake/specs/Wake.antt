@@ -4,6 +4,7 @@ use Rattle.time.specs.declared.When.{When}
 use Rattle.time.specs.Pick.{pick}
 use Rattle.settings.specs.declared.Config.{Config}
 use Rattle.cycle.specs.declared.Cycle.{Cycle}
+use Rattle.cycle.specs.declared.PendI.{PendI}
 use Rattle.cycle.specs.Kind.{is_init, is_pend_i, is_pend_r}
 use Rattle.candidates.specs.Held.{earliest_of}
 use Rattle.state.specs.Parts.{listed}
@@ -22,6 +23,10 @@ cycle_instants c =
     pick (is_init c.kind) (ladder_instants c.init.ladder ++ c.init.deadline ∷ [])
     (pick (is_pend_i c.kind) (c.pendi.deadline ∷ (may_instants c.pendi.probes ++ fin_instants c.pendi.fin))
     (pick (is_pend_r c.kind) (c.pendr.deadline ∷ []) []))
+
+-- those of an own completed attempt alone
+unfoldable pub pending_waits : PendI → List ℕ
+pending_waits p = p.deadline ∷ (may_instants p.probes ++ fin_instants p.fin)
 
 -- the instants that stand in the state: the drain's deadline, the candidates', the cycle's, and those of the current epoch's ladders
 unfoldable pub stored_instants : State → List ℕ

@@ -2,275 +2,189 @@
 // teardown tests of `poll`).
 #![tactic(auto)]
 
-ghost use Rattle.std.specs.Prelude.{◌≡◌, not, ◌&&◌, [], ◌∷◌, ◌++◌};
-ghost use Rattle.time.specs.Pick.{pick};
-ghost use Rattle.time.specs.Time.{at as at_of, sooner_of};
+ghost use Rattle.std.specs.Prelude.{◌≡◌, ℕ, List};
+ghost use Rattle.time.specs.Options.{when_of};
+ghost use Rattle.time.specs.Time.{reached_of};
 ghost use Rattle.candidates.specs.Held.{earliest_of};
-ghost use Rattle.state.specs.Parts.{listed};
-ghost use Rattle.wake.specs.Due.{ladder_instants, may_instants, fin_instants, elicit_instants, pending_due, cycle_due, due_instants, any_due};
-ghost use Rattle.wake.specs.Wake.{exhausted as exhausted_of, cycle_instants, stored_instants, wake_of};
-ghost use Rattle.wake.specs.Quiet.{opening_idle, teardown_stands, offer_owed, quiet_of};
+ghost use Rattle.start.specs.Start.{instants};
+ghost use Rattle.wake.specs.Due.{may_instants, fin_instants, elicit_instants, pending_due, cycle_with, current_instants, standing, due_instants, any_due};
+ghost use Rattle.wake.specs.Wake.{exhausted as exhausted_of, pending_waits, stored_instants, wake_of};
+ghost use Rattle.wake.specs.Quiet.{offerable, opening_idle, teardown_stands, offer_owed, quiet_of};
 
-use cycle::Cycle;
-use epoch::{Final, MayLadder};
-use ladder::Ladder;
+use cycle::{Cycle, PendI};
+use epoch::{Epoch, Final, MayEpoch, MayLadder};
+use numbers::cycle::Stage;
+use numbers::wait::Wait;
 use settings::Config;
 use state::{Profile, State};
-use time::When;
-
-// An instant that is there or not.
-fn given(some: bool, t: u64) -> When
-    ensures { result ≡ earliest_of (listed some t) }
-{
-    if some {
-        return When { some: true, at: t };
-    }
-    When::NONE
-}
-
-// The next instant of a ladder.
-fn ladder_next(l: Ladder) -> When
-    ensures { result ≡ earliest_of (ladder_instants l) }
-{
-    let n = l.next_at();
-    n.at
-}
 
 // The next instant of a ladder that may be absent.
-fn may_next(m: MayLadder) -> When
-    ensures { result ≡ earliest_of (may_instants m) }
+#[tactic(auto, unfolding(crate::specs::Due::ladder_instants, crate::specs::Due::may_instants))]
+pub fn may_next(m: MayLadder) -> Option<u64>
+    ensures { instants (when_of result) ≡ may_instants m }
 {
-    if m.some {
-        let l = m.ladder;
-        return ladder_next(l);
-    }
-    When::NONE
+    if m.some { m.ladder.next_at() } else { None }
 }
 
 // The next instant of a final message's ladder.
-fn fin_next(f: Final) -> When
-    ensures { result ≡ earliest_of (fin_instants f) }
+#[tactic(auto, unfolding(crate::specs::Due::ladder_instants, crate::specs::Due::fin_instants))]
+pub fn fin_next(f: Final) -> Option<u64>
+    ensures { instants (when_of result) ≡ fin_instants f }
 {
-    if f.some {
-        let l = f.ladder;
-        return ladder_next(l);
-    }
-    When::NONE
+    if f.some { f.ladder.next_at() } else { None }
 }
 
-// The earlier of a ladder's next instant and a deadline.
-fn by(next: When, deadline: u64) -> When
-    ensures { result ≡ sooner_of next (at_of deadline) }
+// The prompt repeats' next instant, until the peer is seen to move.
+#[tactic(auto, unfolding(crate::specs::Due::elicit_instants))]
+pub fn elicit_next(moved: bool, m: MayLadder) -> Option<u64>
+    ensures { instants (when_of result) ≡ elicit_instants moved m }
 {
-    next.sooner(When {
-        some: true,
-        at: deadline,
-    })
+    if moved { None } else { may_next(m) }
 }
 
 // What a completed own attempt waits for under any wait.
-fn pending_next(deadline: u64, probes: MayLadder, fin: Final) -> When
-    ensures { result ≡ earliest_of (deadline ∷ (may_instants probes ++ fin_instants fin)) }
+fn pending_next(p: &PendI) -> Option<u64>
+    ensures { when_of result ≡ earliest_of (pending_waits p.now) }
 {
-    let ladders = may_next(probes).sooner(fin_next(fin));
-    let end = When {
-        some: true,
-        at: deadline,
-    };
-    end.sooner(ladders)
+    let ladders = time::sooner(may_next(p.probes), fin_next(p.fin));
+    time::sooner(Some(p.deadline), ladders)
 }
 
 // What it waits for under its own wait.
-fn pending_due(wait: u8, deadline: u64, probes: MayLadder, fin: Final) -> When
-    ensures { result ≡ earliest_of (pending_due wait deadline probes fin) }
+fn pending_due(p: &PendI) -> Option<u64>
+    ensures { when_of result ≡ earliest_of (pending_due p.now.wait p.now.deadline p.now.probes p.now.fin) }
 {
-    if wait == numbers::wait::HELD {
-        return When {
-            some: true,
-            at: deadline,
-        };
+    match p.waits() {
+        Wait::Held => Some(p.deadline),
+        Wait::Evidence => time::sooner(may_next(p.probes), Some(p.deadline)),
+        Wait::Delay => time::sooner(fin_next(p.fin), Some(p.deadline)),
     }
-    if wait == numbers::wait::EVIDENCE {
-        return by(may_next(probes), deadline);
-    }
-    by(fin_next(fin), deadline)
 }
 
-// The least instant of the cycle that the wake counts.
-fn cycle_next(c: Cycle) -> When
-    ensures { result ≡ earliest_of (cycle_instants c) }
+// The least instant of the cycle, where `pending` is that of a completed own attempt.
+fn cycle_next(c: &Cycle, pending: Option<u64>) -> Option<u64>
+    ensures { (l : List ℕ) → when_of pending ≡ earliest_of l → when_of result ≡ earliest_of (cycle_with c.now l) }
 {
-    if c.kind == numbers::cycle::INIT {
-        let l = c.init.ladder;
-        return by(ladder_next(l), c.init.deadline);
+    match c.stage() {
+        Stage::Init => time::sooner(c.init.ladder.next_at(), Some(c.init.deadline)),
+        Stage::PendI => pending,
+        Stage::PendR => Some(c.pendr.deadline),
+        Stage::Idle => None,
     }
-    if c.kind == numbers::cycle::PENDI {
-        let probes = c.pendi.probes;
-        let fin = c.pendi.fin;
-        return pending_next(c.pendi.deadline, probes, fin);
-    }
-    given(c.kind == numbers::cycle::PENDR, c.pendr.deadline)
-}
-
-// The least instant of the cycle's items.
-fn cycle_due(c: Cycle) -> When
-    ensures { result ≡ earliest_of (cycle_due c) }
-{
-    if c.kind == numbers::cycle::INIT {
-        let l = c.init.ladder;
-        return by(ladder_next(l), c.init.deadline);
-    }
-    if c.kind == numbers::cycle::PENDI {
-        let probes = c.pendi.probes;
-        let fin = c.pendi.fin;
-        return pending_due(c.pendi.wait, c.pendi.deadline, probes, fin);
-    }
-    given(c.kind == numbers::cycle::PENDR, c.pendr.deadline)
 }
 
 // The ladders of the current epoch: its final message's, and its prompt repeats' until the peer is
 // seen to move.
-fn current_next(some: bool, fin: Final, moved: bool, elicit: MayLadder) -> When
-    ensures { result ≡ earliest_of (pick some (fin_instants fin ++ elicit_instants moved elicit) []) }
+fn current_next(e: &MayEpoch) -> Option<u64>
+    ensures { when_of result ≡ earliest_of (current_instants e.now) }
 {
-    if some {
-        let f = fin_next(fin);
-        if moved {
-            return f;
-        }
-        return f.sooner(may_next(elicit));
+    if e.some {
+        let elicit = elicit_next(e.ep.moved.some, e.ep.elicit);
+        time::sooner(fin_next(e.ep.fin), elicit)
+    } else {
+        None
     }
-    When::NONE
+}
+
+// The least instant of the drain, the candidates, the cycle and the current epoch, where `cycle` is
+// that of the cycle.
+fn standing_next(s: &State, cycle: Option<u64>) -> Option<u64>
+    ensures { (l : List ℕ) → when_of cycle ≡ earliest_of l → when_of result ≡ earliest_of (standing s.now l) }
+{
+    let drain = s.drain.some.then_some(s.drain.deadline);
+    let rest = time::sooner(cycle, current_next(&s.cur));
+    time::sooner(drain, time::sooner(s.cands.earliest(), rest))
 }
 
 // The least instant of an item.
-fn due_next(s: State) -> When
-    ensures { result ≡ earliest_of (due_instants s) }
+fn due_next(s: &State) -> Option<u64>
+    ensures { when_of result ≡ earliest_of (due_instants s.now) }
 {
-    let drain = given(s.drain.some, s.drain.deadline);
-    let deadlines = s.cands.deadline;
-    let waiting = candidates::earliest(&deadlines, s.cands.len);
-    let c = s.cycle;
-    let cycle = cycle_due(c);
-    let fin = s.cur.ep.fin;
-    let elicit = s.cur.ep.elicit;
-    let current = current_next(s.cur.some, fin, s.cur.ep.moved.some, elicit);
-    drain.sooner(waiting.sooner(cycle.sooner(current)))
+    let pending = pending_due(&s.cycle.pendi);
+    standing_next(s, cycle_next(&s.cycle, pending))
 }
 
 // The least stored instant that the wake counts.
-fn stored_next(s: State) -> When
-    ensures { result ≡ earliest_of (stored_instants s) }
+fn stored_next(s: &State) -> Option<u64>
+    ensures { when_of result ≡ earliest_of (stored_instants s.now) }
 {
-    let drain = given(s.drain.some, s.drain.deadline);
-    let deadlines = s.cands.deadline;
-    let waiting = candidates::earliest(&deadlines, s.cands.len);
-    let c = s.cycle;
-    let cycle = cycle_next(c);
-    let fin = s.cur.ep.fin;
-    let elicit = s.cur.ep.elicit;
-    let current = current_next(s.cur.some, fin, s.cur.ep.moved.some, elicit);
-    drain.sooner(waiting.sooner(cycle.sooner(current)))
+    let pending = pending_next(&s.cycle.pendi);
+    standing_next(s, cycle_next(&s.cycle, pending))
 }
 
 // Whether the current epoch's sent count has reached the hard limit.
-pub fn exhausted(s: State, cfg: Config) -> bool
-    ensures { result ≡ exhausted_of s cfg }
+#[tactic(auto, unfolding(crate::specs::Wake::exhausted))]
+pub fn exhausted(s: &State, cfg: &Config) -> bool
+    ensures { result ≡ exhausted_of s.now cfg.now }
 {
-    if s.cur.some {
-        return cfg.hard <= s.cur.ep.sent;
-    }
-    false
+    s.cur.some && cfg.hard <= s.cur.ep.sent
 }
 
 // The wake: the least instant that a stored deadline, a ladder or a start condition names. It counts the
 // ladders of a waiting initiator under every wait, so it may come before there is anything to do.
-pub fn next_wake(s: State, cfg: Config, p: Profile) -> When
-    ensures { result ≡ wake_of s cfg p }
+pub fn next_wake(s: &State, cfg: &Config, p: Profile) -> Option<u64>
+    ensures { when_of result ≡ wake_of s.now cfg.now p }
 {
-    let stored = stored_next(s);
     let start = start::at(s, cfg, p);
     // An exhausted counter tears down at the next poll; its epoch's start is already past.
-    let hard = given(exhausted(s, cfg), s.cur.ep.started);
-    stored.sooner(start.sooner(hard))
+    let hard = exhausted(s, cfg).then_some(s.cur.ep.started);
+    time::sooner(stored_next(s), time::sooner(start, hard))
+}
+
+// Whether an instant is there and not after `now`.
+fn is_reached(w: Option<u64>, now: u64) -> bool
+    ensures { result ≡ reached_of (when_of w) now }
+{
+    w.is_some_and(|t| t <= now)
 }
 
 // Whether an item is due.
-pub fn any_due(s: State, now: u64) -> bool
-    ensures { result ≡ any_due s now }
+pub fn any_due(s: &State, now: u64) -> bool
+    ensures { result ≡ any_due s.now now }
 {
-    due_next(s).reached(now)
+    is_reached(due_next(s), now)
 }
 
 // Whether the first handshake is over without an epoch: no current one, nothing in progress and no
 // candidate.
-pub fn opening_idle(s: State) -> bool
-    ensures { result ≡ opening_idle s }
+#[tactic(auto, unfolding(crate::specs::Quiet::opening_idle))]
+pub fn opening_idle(s: &State) -> bool
+    ensures { result ≡ opening_idle s.now }
 {
-    if s.cur.some {
-        return false;
-    }
-    if start::idle(s.cycle.kind) {
-        return s.cands.len == 0;
-    }
-    false
+    !s.cur.some && s.cycle.stage() == Stage::Idle && s.cands.len == 0
 }
 
 // Whether a teardown test of `poll` holds.
-pub fn teardown_stands(s: State, cfg: Config) -> bool
-    ensures { result ≡ teardown_stands s cfg }
+#[tactic(auto, unfolding(crate::specs::Quiet::teardown_stands))]
+pub fn teardown_stands(s: &State, cfg: &Config) -> bool
+    ensures { result ≡ teardown_stands s.now cfg.now }
 {
-    if opening_idle(s) {
-        return true;
-    }
-    exhausted(s, cfg)
+    opening_idle(s) || exhausted(s, cfg)
 }
 
-// Whether an epoch is there, received here and bound.
-fn owed(some: bool, delegated: bool, lease: bool) -> bool
-    ensures { result ≡ (some && (not delegated && lease)) }
+// Whether an epoch is received here and bound.
+fn is_offerable(e: &Epoch) -> bool
+    ensures { result ≡ offerable e.now }
 {
-    if some {
-        if delegated {
-            return false;
-        }
-        return lease;
-    }
-    false
+    !e.delegated && e.ids.lease.some
 }
 
 // Whether the receive half of an epoch is to be offered to a worker.
-pub fn offer_owed(s: State, workers: bool) -> bool
-    ensures { result ≡ offer_owed s workers }
+#[tactic(auto, unfolding(crate::specs::Quiet::offer_owed))]
+pub fn offer_owed(s: &State, workers: bool) -> bool
+    ensures { result ≡ offer_owed s.now workers }
 {
-    if workers {
-        if owed(s.cur.some, s.cur.ep.delegated, s.cur.ep.ids.lease.some) {
-            return true;
-        }
-        return owed(
-            s.drain.some,
-            s.drain.ep.delegated,
-            s.drain.ep.ids.lease.some,
-        );
-    }
-    false
+    let current = s.cur.some && is_offerable(&s.cur.ep);
+    workers && (current || s.drain.some && is_offerable(&s.drain.ep))
 }
 
 // Whether a poll has nothing to do.
-pub fn quiet(s: State, cfg: Config, p: Profile, now: u64, workers: bool) -> bool
-    ensures { result ≡ quiet_of s cfg p now workers }
+#[tactic(auto, unfolding(crate::specs::Quiet::quiet_of))]
+pub fn quiet(s: &State, cfg: &Config, p: Profile, now: u64, workers: bool) -> bool
+    ensures { result ≡ quiet_of s.now cfg.now p now workers }
 {
-    if any_due(s, now) {
-        return false;
-    }
-    if start::called_for(s, cfg, p, now) {
-        return false;
-    }
-    if teardown_stands(s, cfg) {
-        return false;
-    }
-    if offer_owed(s, workers) {
-        return false;
-    }
-    true
+    !any_due(s, now)
+        && !start::called_for(s, cfg, p, now)
+        && !teardown_stands(s, cfg)
+        && !offer_owed(s, workers)
 }

@@ -1,4 +1,4 @@
-use Prim.Native.Nat.{◌+◌, ◌-◌}
+use Prim.Native.Nat.{◌+◌}
 use mathlib.Core.Path.{sym, ◌∙◌, ap}
 use native.Mathlib.Nat.{zero-add, add-zero}
 use native.Mathlib.Omega.{arith}
@@ -14,7 +14,7 @@ use Rattle.candidates.proofs.pack.Goals.{then-t-born, else-t-born}
 pub loop-i-init : goal.loop-i-init
 loop-i-init c =
     let e = keeping_all (test c.args.t c.args.born.now) c.args.n in
-    (search rules, search rules, search rules, sym (zero-add _ ∙ ap length e), sym (ap (λ ps. moved 0 ps c.args.a.now) e ∙ moved_all _ _))
+    (search rules, search rules, sym (zero-add _ ∙ ap length e), sym (ap (λ ps. moved 0 ps c.args.a.now) e ∙ moved_all _ _))
 
 pub loop-i-preserved : goal.loop-i-preserved
 loop-i-preserved c =
@@ -22,13 +22,13 @@ loop-i-preserved c =
     elim c.if-t-born.branch [
       | then-t-born w ↦
           let e = lt-ltb _ _ w.if-t-born.true in
-          (omega arith, rw w.w-is (omega arith), rw w.a-is (simp length-set c.loop-i.invariant.2), rw w.w-is (c.loop-i.invariant.3 ∙ (ap (λ ps. c.loop-i.w + length ps) (keeping_in t c.loop-i.i c.args.n c.loop-i-test.true e) ∙ omega arith)), rw (w.a-is, w.w-is) (c.loop-i.invariant.4 ∙ packed_in t c.loop-i.i c.args.n c.loop-i.w c.loop-i.a c.loop-i-test.true c.loop-i.invariant.1 (omega arith) e))
+          (rw w.w-is (omega arith), rw w.a-is (simp length-set c.loop-i.invariant.1), rw w.w-is (c.loop-i.invariant.2 ∙ (ap (λ ps. c.loop-i.w + length ps) (keeping_in t c.loop-i.i c.args.n c.loop-i-test.true e) ∙ omega arith)), rw (w.a-is, w.w-is) (c.loop-i.invariant.3 ∙ packed_in t c.loop-i.i c.args.n c.loop-i.w c.loop-i.a c.loop-i-test.true c.loop-i.invariant.0 (omega arith) e))
       | else-t-born w ↦
           let e = le-ltb _ _ w.if-t-born.false in
-          (omega arith, rw w.w-is (omega arith), rw w.a-is c.loop-i.invariant.2, rw w.w-is (c.loop-i.invariant.3 ∙ ap (λ ps. c.loop-i.w + length ps) (keeping-out t c.loop-i.i c.args.n c.loop-i-test.true e)), rw (w.a-is, w.w-is) (c.loop-i.invariant.4 ∙ ap (λ ps. moved c.loop-i.w ps c.loop-i.a) (keeping-out t c.loop-i.i c.args.n c.loop-i-test.true e)))
+          (rw w.w-is (omega arith), rw w.a-is c.loop-i.invariant.1, rw w.w-is (c.loop-i.invariant.2 ∙ ap (λ ps. c.loop-i.w + length ps) (keeping-out t c.loop-i.i c.args.n c.loop-i-test.true e)), rw (w.a-is, w.w-is) (c.loop-i.invariant.3 ∙ ap (λ ps. moved c.loop-i.w ps c.loop-i.a) (keeping-out t c.loop-i.i c.args.n c.loop-i-test.true e)))
     ]
 
 pub returns : goal.returns
 returns c =
     let e = keeping-end (test c.args.t c.args.born.now) c.loop-i.i c.args.n c.loop-i-test.false in
-    (sym (c.loop-i.invariant.3 ∙ (ap (λ ps. c.loop-i.w + length ps) e ∙ add-zero c.loop-i.w)), sym (c.loop-i.invariant.4 ∙ (ap (λ ps. moved c.loop-i.w ps c.loop-i.a) e ∙ moved-done c.loop-i.w c.loop-i.a)))
+    (sym (c.loop-i.invariant.2 ∙ (ap (λ ps. c.loop-i.w + length ps) e ∙ add-zero c.loop-i.w)), sym (c.loop-i.invariant.3 ∙ (ap (λ ps. moved c.loop-i.w ps c.loop-i.a) e ∙ moved-done c.loop-i.w c.loop-i.a)))

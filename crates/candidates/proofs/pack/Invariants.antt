@@ -13,7 +13,7 @@ abbrev pub test : ℕ → List ℕ → ℕ → Bool
 test t born j = ltb t (get_or born j 0)
 
 abbrev pub invariant-loop-i : goal.invariant-loop-i
-invariant-loop-i l = (l.i ≤ l.n) × (l.w ≤ l.i) × (length l.a ≡ 32) × (length (younger l.t l.n l.born) ≡ l.w + length (keeping (test l.t l.born) l.i l.n)) × (chosen (younger l.t l.n l.born) l.initial.a ≡ moved l.w (keeping (test l.t l.born) l.i l.n) l.a)
+invariant-loop-i l = (l.w ≤ l.i) × (length l.a ≡ 32) × (length (younger l.t l.n l.born) ≡ l.w + length (keeping (test l.t l.born) l.i l.n)) × (chosen (younger l.t l.n l.born) l.initial.a ≡ moved l.w (keeping (test l.t l.born) l.i l.n) l.a)
 
 abbrev pub decreases-loop-i : goal.decreases-loop-i
 decreases-loop-i l = l.n - l.i

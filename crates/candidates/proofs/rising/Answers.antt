@@ -1,4 +1,3 @@
-use Prim.Native.Nat.{◌-◌}
 use mathlib.Core.Path.{sym, ◌∙◌}
 use Rattle.candidates.proofs.Places.{rising-start, rising-on, rising_not, rising-end}
 use Rattle.candidates.proofs.rising.Goals as goal

@@ -1,14 +1,10 @@
-use mir.Facts.{to_z-of_z}
 use Rattle.frame_slots.specs.Frame.{pending_frame}
-use Rattle.events.proofs.Laws.{logged-append}
+use Rattle.retire.proofs.Told.{tells_then}
+use mir.Facts.{to_z-of_z}
 use Rattle.frame_slots.proofs.frame_pending.Goals as goal
 
 pub returns : goal.returns
 unfolding pending_frame
-returns c = (
-  simp (c.cutover-cut.ensures.0, c.pend_of-pend.ensures, to_z-of_z c.ranges.spread),
-  (
-    simp c.deliver-n.ensures.0,
-    simp (c.deliver-n.ensures.1, c.cutover-cut.ensures.1, c.pend_of-pend.ensures, c.end_pending-a.ensures, logged-append, to_z-of_z c.ranges.spread),
-  ),
-)
+returns c =
+    let told = simp (to_z-of_z c.ranges.spread) at c.cutover-state.ensures.told in
+    (simp (c.cutover-state.ensures.state, c.pend_of-pend.ensures, to_z-of_z c.ranges.spread), (c.deliver.ensures.target, simp (← c.pend_of-pend.ensures) (tells_then c.end_pending.ensures (tells_then told c.deliver.ensures.told))))

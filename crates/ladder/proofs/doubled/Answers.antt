@@ -5,6 +5,7 @@ use native.Mathlib.Nat.{one-mul, mod-eq_of_lt, mul-le-mul}
 use lib.Pow.{pow-lt, pow_pos, pow_mono}
 use Rattle.time.specs.Time.{sat_mul}
 use Rattle.time.specs.Laws.{sat_mul-full}
+use Rattle.time.proofs.Std.{mul_stops}
 use Rattle.ladder.specs.Schedule.{doubled}
 use Rattle.ladder.proofs.doubled.Goals as goal
 
@@ -19,7 +20,7 @@ overflow_sub-p c =
 pub returns-then-i-lt63 : goal.returns-then-i-lt63
 unfolding doubled
 returns-then-i-lt63 c =
-    c.sat_mul.ensures ∙ ap (λ p. sat_mul c.args.first (p - 1)) (shifted (c.args.i + 1) (omega arith))
+    c.saturating_mul.ensures ∙ mul_stops c.args.first ((1 * 2 ^ (c.args.i + 1)) % 2 ^ 64 - 1) ∙ ap (λ p. sat_mul c.args.first (p - 1)) (shifted (c.args.i + 1) (omega arith))
 
 pub returns-else-i-lt63 : goal.returns-else-i-lt63
 unfolding doubled

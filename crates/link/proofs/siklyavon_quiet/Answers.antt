@@ -14,9 +14,9 @@ returns-then-first_busy c =
 pub returns-then-alone : goal.returns-then-alone
 returns-then-alone c =
     let e : c.first_busy.result ≡ first_busy c.args.s.now c.args.g c.args.spread = simp (to_z-of_z c.ranges.spread) at c.first_busy.ensures in
-    tells-alone _ _ _ _ (sym e ∙ c.if-first_busy.false) (sym c.alone.ensures ∙ c.if-alone.true) refl
+    tells-alone _ _ _ _ (sym e ∙ c.if-first_busy.false) (sym c.alone.ensures ∙ c.if-alone.true) c.if-alone.true
 
-pub returns : goal.returns
-returns c =
+pub returns-else-alone : goal.returns-else-alone
+returns-else-alone c =
     let e : c.first_busy.result ≡ first_busy c.args.s.now c.args.g c.args.spread = simp (to_z-of_z c.ranges.spread) at c.first_busy.ensures in
     tells-other _ _ _ _ (sym e ∙ c.if-first_busy.false) c.other_still.ensures

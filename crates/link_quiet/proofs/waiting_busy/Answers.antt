@@ -1,20 +1,23 @@
-use borrow.Author.Rules.{rules}
-use borrow.Author.Tests.{lt-ltb, le-ltb}
-use native.Mathlib.Omega.{arith}
+use Rattle.std.proofs.Common.{◌≤◌, ◌<◌, arith, lt-ltb, le-ltb}
 use Rattle.candidates.specs.Repeats.{repeated}
 use Rattle.link_quiet.specs.Busy.{waiting_busy}
 use Rattle.link_quiet.specs.Due.{nothing-due, none-held}
 use Rattle.link_quiet.proofs.waiting_busy.Goals as goal
 
-pub returns-then-s-eq0 : goal.returns-then-s-eq0
+pub returns-in-0 : goal.returns-in-0
 unfolding waiting_busy repeated
-returns-then-s-eq0 c =
-    simp (le-ltb 32 c.args.s.cands.len (omega (arith, c.if-s-eq0.true)), none-held c.args.s.cands.len c.args.s.cands.deadline c.if-s-eq0.true, none-held c.args.s.cands.len c.args.s.cands.seq c.if-s-eq0.true, nothing-due)
+returns-in-0 c =
+    let v = c.args.s.now.cands in
+    simp (le-ltb 32 v.len (omega (arith, c.in-0.is)), none-held v.len v.deadline c.in-0.is, none-held v.len v.seq c.in-0.is, nothing-due)
 
-pub returns-then-s-gt32 : goal.returns-then-s-gt32
+pub returns-in-1-to-32 : goal.returns-in-1-to-32
 unfolding waiting_busy
-returns-then-s-gt32 c = simp (lt-ltb _ _ c.if-s-gt32.true)
+returns-in-1-to-32 c =
+    let h : c.args.s.now.cands.len ≤ 32 = omega arith in
+    simp (le-ltb _ _ h, ← c.both.ensures)
 
-pub returns : goal.returns
+pub returns-in_default : goal.returns-in_default
 unfolding waiting_busy
-returns c = simp (le-ltb _ _ c.if-s-gt32.false, ← c.both.ensures)
+returns-in_default c =
+    let h : 32 < c.args.s.now.cands.len = omega arith in
+    simp (lt-ltb _ _ h)

@@ -1,20 +1,16 @@
-use mathlib.Core.Path.{◌≡◌}
-use native.Mathlib.Omega.{arith}
+use Rattle.std.proofs.Common.{rules, arith}
 use mir.Facts.{to_z-of_z}
-use Rattle.refusal.specs.Refusal.{before_frame}
-use Rattle.notice_rows.proofs.Most.{handed-most}
 use Rattle.notice_rows.specs.Rows.{delegated_of}
+use Rattle.notice_rows.proofs.Most.{handed-most}
 use Rattle.notice.proofs.Answer.{notice_back, notice-on}
 use Rattle.notice.proofs.delegated.Goals as goal
 
-pub returns-then-back-ne0 : goal.returns-then-back-ne0
-returns-then-back-ne0 c =
-    let e : c.before_frame-back.result ≡ before_frame c.args.s c.args.cfg c.args.p c.args.spread = simp (to_z-of_z c.ranges.spread) at c.before_frame-back.ensures in
-    let q = notice_back c.args.s c.args.cfg c.args.p c.args.spread (delegated_of c.args.s c.args.tag) c.before_frame-back.result e _ c.if-back-ne0.true c.sent_back.ensures c.args.log.now in
-    record { delegated = q.0; exact = q.1 }
+pub returns-in-Err-clause-delegated : goal.returns-in-Err-clause-delegated
+returns-in-Err-clause-delegated c =
+    let e = simp (to_z-of_z c.ranges.spread) at c.in-Err.ensures in
+    notice_back _ _ _ _ (delegated_of c.args.s c.args.tag) _ _ e c.sent_back.ensures _
 
-pub returns : goal.returns
-returns c =
-    let e : c.before_frame-back.result ≡ before_frame c.args.s c.args.cfg c.args.p c.args.spread = simp (to_z-of_z c.ranges.spread) at c.before_frame-back.ensures in
-    let q = notice-on c.args.s c.args.cfg c.args.p c.args.spread (delegated_of c.args.s c.args.tag) c.before_frame-back.result e _ c.if-back-ne0.false 1 (omega arith) (handed-most _ _ _ _ _) _ _ c.finish.ensures c.delegated-h.ensures.0 _ _ c.words-arg-2-1.given c.delegated-h.ensures.1 in
-    record { delegated = q.0; exact = q.1 }
+pub returns-clause-delegated : goal.returns-clause-delegated
+returns-clause-delegated c =
+    let e = simp (to_z-of_z c.ranges.spread) at c.in_default.ensures in
+    notice-on _ _ _ _ (delegated_of c.args.s c.args.tag) _ e 1 (omega arith) (handed-most _ _ _ _ _) _ _ c.finish.ensures c.delegated-left.ensures.0 _ _ (search rules) (search rules)

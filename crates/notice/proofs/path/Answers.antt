@@ -1,19 +1,15 @@
-use mathlib.Core.Path.{◌≡◌, refl}
-use native.Mathlib.Omega.{arith}
+use Rattle.std.proofs.Common.{rules, refl, arith}
 use mir.Facts.{to_z-of_z}
-use Rattle.refusal.specs.Refusal.{before_frame}
 use Rattle.notice_rows.specs.Rows.{path_of}
 use Rattle.notice.proofs.Answer.{notice_back, notice-on}
 use Rattle.notice.proofs.path.Goals as goal
 
-pub returns-then-back-ne0 : goal.returns-then-back-ne0
-returns-then-back-ne0 c =
-    let e : c.before_frame-back.result ≡ before_frame c.args.s c.args.cfg c.args.p c.args.spread = simp (to_z-of_z c.ranges.spread) at c.before_frame-back.ensures in
-    let q = notice_back c.args.s c.args.cfg c.args.p c.args.spread (path_of c.args.s c.args.reachable c.args.srtt) c.before_frame-back.result e _ c.if-back-ne0.true c.sent_back.ensures c.args.log.now in
-    record { path = q.0; exact = q.1 }
+pub returns-in-Err-clause-path : goal.returns-in-Err-clause-path
+returns-in-Err-clause-path c =
+    let e = simp (to_z-of_z c.ranges.spread) at c.in-Err.ensures in
+    notice_back _ _ _ _ (path_of c.args.s c.args.reachable c.args.srtt) _ _ e c.sent_back.ensures _
 
-pub returns : goal.returns
-returns c =
-    let e : c.before_frame-back.result ≡ before_frame c.args.s c.args.cfg c.args.p c.args.spread = simp (to_z-of_z c.ranges.spread) at c.before_frame-back.ensures in
-    let q = notice-on c.args.s c.args.cfg c.args.p c.args.spread (path_of c.args.s c.args.reachable c.args.srtt) c.before_frame-back.result e _ c.if-back-ne0.false 0 (omega arith) (omega arith) _ _ c.finish.ensures (simp c.path-mem.ensures) _ _ c.words-arg-2-1.given refl in
-    record { path = q.0; exact = q.1 }
+pub returns-clause-path : goal.returns-clause-path
+returns-clause-path c =
+    let e = simp (to_z-of_z c.ranges.spread) at c.in_default.ensures in
+    notice-on _ _ _ _ (path_of c.args.s c.args.reachable c.args.srtt) _ e 0 (omega arith) (omega arith) _ _ c.finish.ensures (simp c.path.ensures) _ _ (search rules) refl

@@ -1,21 +1,17 @@
-use mathlib.Core.Path.{◌≡◌}
-use native.Mathlib.Omega.{arith}
+use Rattle.std.proofs.Common.{rules, arith}
 use mir.Facts.{to_z-of_z}
-use Rattle.refusal.specs.Refusal.{before_frame}
-use Rattle.notice_rows.proofs.Most.{worker-most}
-use Rattle.notice_rows.specs.Rows.{worker_of}
 use Rattle.frame_hear.specs.Hear.{given_of}
+use Rattle.notice_rows.specs.Rows.{worker_of}
+use Rattle.notice_rows.proofs.Most.{worker-most}
 use Rattle.notice.proofs.Answer.{notice_back, notice-on}
 use Rattle.notice.proofs.worker.Goals as goal
 
-pub returns-then-back-ne0 : goal.returns-then-back-ne0
-returns-then-back-ne0 c =
-    let e : c.before_frame-back.result ≡ before_frame c.args.s c.args.cfg c.args.p c.args.spread = simp (to_z-of_z c.ranges.spread) at c.before_frame-back.ensures in
-    let q = notice_back c.args.s c.args.cfg c.args.p c.args.spread (worker_of c.args.s (given_of c.args.cfg c.args.p c.args.time c.args.workers) c.args.tag c.args.k c.args.counter) c.before_frame-back.result e _ c.if-back-ne0.true c.sent_back.ensures c.args.log.now in
-    record { worker = q.0; exact = q.1 }
+pub returns-in-Err-clause-worker : goal.returns-in-Err-clause-worker
+returns-in-Err-clause-worker c =
+    let e = simp (to_z-of_z c.ranges.spread) at c.in-Err.ensures in
+    notice_back _ _ _ _ (worker_of c.args.s (given_of c.args.cfg c.args.p c.args.time c.args.workers) c.args.tag c.args.k c.args.counter) _ _ e c.sent_back.ensures _
 
-pub returns : goal.returns
-returns c =
-    let e : c.before_frame-back.result ≡ before_frame c.args.s c.args.cfg c.args.p c.args.spread = simp (to_z-of_z c.ranges.spread) at c.before_frame-back.ensures in
-    let q = notice-on c.args.s c.args.cfg c.args.p c.args.spread (worker_of c.args.s (given_of c.args.cfg c.args.p c.args.time c.args.workers) c.args.tag c.args.k c.args.counter) c.before_frame-back.result e _ c.if-back-ne0.false 6 (omega arith) (worker-most _ _ _ _ _) _ _ c.finish.ensures (simp (c.worker-h.ensures.0, c.given-g.ensures)) _ _ c.words-arg-2-1.given (simp (c.worker-h.ensures.1, c.given-g.ensures)) in
-    record { worker = q.0; exact = q.1 }
+pub returns-clause-worker : goal.returns-clause-worker
+returns-clause-worker c =
+    let e = simp (to_z-of_z c.ranges.spread) at c.in_default.ensures in
+    notice-on _ _ _ _ (worker_of c.args.s (given_of c.args.cfg c.args.p c.args.time c.args.workers) c.args.tag c.args.k c.args.counter) _ e 6 (omega arith) (worker-most _ _ _ _ _) _ _ c.finish.ensures (simp (c.worker-left.ensures.0, c.given-g.ensures)) _ _ (search rules) (simp (← c.given-g.ensures) (search rules))

@@ -1,12 +1,16 @@
+use Rattle.std.proofs.Common.{rules}
 use mir.Facts.{to_z-of_z}
 use Rattle.poll.proofs.Answer.{poll-back, poll-on}
-use Rattle.poll.proofs.Exact.{poll_exact}
-use Rattle.poll.proofs.Acts.{poll_acts}
 use Rattle.poll.proofs.poll.Goals as goal
 
-pub returns-then-back-ne0 : goal.returns-then-back-ne0
-returns-then-back-ne0 c = record { poll = poll-back _ _ _ _ _ _ _ _ (to_z-of_z c.ranges.spread) _ c.before_poll-back.ensures _ c.if-back-ne0.true c.sent_back.ensures _; exact = poll_exact _ _ _ _ _ _ _; acts = poll_acts _ _ _ _ _ _ _ }
+pub returns-in-Err-clause-poll : goal.returns-in-Err-clause-poll
+returns-in-Err-clause-poll c =
+    let e = simp (to_z-of_z c.ranges.spread) at c.in-Err.ensures in
+    poll-back _ _ _ _ _ _ _ _ _ e c.sent_back.ensures _
 
-pub returns : goal.returns
-returns c =
-    record { poll = poll-on _ _ _ _ _ _ _ _ (to_z-of_z c.ranges.spread) _ c.before_poll-back.ensures _ c.if-back-ne0.false _ _ _ _ c.args.log.now _ _ _ c.words-arg-2-1.given c.finish.ensures c.passes-t.ensures c.close-n.ensures; exact = poll_exact _ _ _ _ _ _ _; acts = poll_acts _ _ _ _ _ _ _ }
+pub returns-clause-poll : goal.returns-clause-poll
+returns-clause-poll c =
+    let e = simp (to_z-of_z c.ranges.spread) at c.in_default.ensures in
+    let h = simp (to_z-of_z c.ranges.spread) at c.passes-t.ensures in
+    poll-on _ _ _ _ _ _ _ _ _ _ _ _ _ _ _ _ c.new-told.ensures.words (search rules) (search rules) e c.new-told.ensures.empty h c.close.ensures
+    (cc)

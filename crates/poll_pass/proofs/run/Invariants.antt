@@ -1,10 +1,9 @@
-use Prim.Native.Nat.{◌-◌}
-use Rattle.poll_pass.specs.Laws.{Along}
+use Rattle.std.specs.Prelude.{[], map, take}
+use Rattle.items.specs.Arrays.{item_of}
+use Rattle.poll_pass.specs.Pass.{work_of, pass_of, Runs}
 use Rattle.poll_pass.proofs.run.Given as goal
 
--- What is left of the pass from place i on, after the work so far, gives the whole pass.
-abbrev pub invariant-loop-i : goal.invariant-loop-i
-invariant-loop-i l = Along l.g l.spread l.kind l.key l.count l.initial.st l.initial.m l.initial.ends l.initial.log l.i l.st l.m l.ends l.log
-
-abbrev pub decreases-loop-i : goal.decreases-loop-i
-decreases-loop-i l = l.count - l.i
+-- The items so far are done.
+abbrev pub invariant-loop-item : goal.invariant-loop-item
+invariant-loop-item l =
+    Runs (pass_of l.g l.spread (map item_of (take l.item-index l.item-items)) (work_of l.initial.left.state [] l.initial.left.ended)) l.initial.log l.left l.log

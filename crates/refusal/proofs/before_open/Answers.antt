@@ -1,27 +1,18 @@
-use mathlib.Core.Bool.{true, false}
-use mathlib.Core.Path.{◌≡◌, refl, sym, ◌∙◌}
-use mathlib.Core.List.{[], ◌∷◌}
+use Rattle.std.proofs.Common.{◌≡◌, refl, [], ◌∷◌, rules}
 use mir.Facts.{to_z-of_z}
+use Rattle.numbers.specs.Numbers.{refused_draw}
 use Rattle.refusal.specs.Refusal.{spread_bad, by, given_tests, open_tests}
 use Rattle.refusal.specs.First.{rising}
-use Rattle.refusal.proofs.Parts.{in_first, sent, unsent}
+use Rattle.refusal.proofs.Parts.{failed, passed}
 use Rattle.refusal.proofs.before_open.Goals as goal
 
-pub returns-then-back-ne0 : goal.returns-then-back-ne0
+pub returns-in_err-before_given : goal.returns-in_err-before_given
 unfolding open_tests given_tests
-returns-then-back-ne0 c =
-    in_first (given_tests c.args.cfg c.args.p) c.before_given-back.result c.before_given-back.ensures (by 7 (spread_bad c.args.cfg.jitter c.args.spread) ∷ []) c.if-back-ne0.true
-
-pub returns-then-spread_bad : goal.returns-then-spread_bad
-unfolding open_tests given_tests rising
-returns-then-spread_bad c =
-    let b = spread_bad c.args.cfg.jitter c.args.spread in
-    let e : b ≡ true = sym (simp (to_z-of_z c.ranges.spread) at c.spread_bad.ensures) ∙ c.if-spread_bad.true in
-    sent (given_tests c.args.cfg c.args.p) c.before_given-back.result c.before_given-back.ensures refl c.if-back-ne0.false 7 b e
+returns-in_err-before_given c =
+    failed (given_tests c.args.cfg c.args.p) (by refused_draw (spread_bad c.args.cfg.jitter c.args.spread) ∷ []) c.in_err-before_given.field-0.0 c.from_residual.result (search rules) c.in_err-before_given.ensures
 
 pub returns : goal.returns
 unfolding open_tests given_tests rising
 returns c =
-    let b = spread_bad c.args.cfg.jitter c.args.spread in
-    let e : b ≡ false = sym (simp (to_z-of_z c.ranges.spread) at c.spread_bad.ensures) ∙ c.if-spread_bad.false in
-    unsent (given_tests c.args.cfg c.args.p) c.before_given-back.result c.before_given-back.ensures refl c.if-back-ne0.false 7 b e
+    let b : c.spread_bad.result ≡ spread_bad c.args.cfg.jitter c.args.spread = simp (to_z-of_z c.ranges.spread) at c.spread_bad.ensures in
+    passed (given_tests c.args.cfg c.args.p) (by refused_draw (spread_bad c.args.cfg.jitter c.args.spread) ∷ []) c.draw.result refl c.in_ok-before_given.ensures (rw b at c.draw.ensures)

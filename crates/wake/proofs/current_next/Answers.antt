@@ -1,17 +1,16 @@
-use Rattle.wake.specs.Due.{elicit_instants}
-use mathlib.Core.List.{append-nil}
+use Rattle.std.proofs.Common.{sym}
+use Rattle.wake.specs.Due.{fin_instants, elicit_instants, current_instants}
 use Rattle.wake.proofs.Earliest.{earliest_nil}
-use Rattle.wake.proofs.Earliest.{earliest_append}
+use Rattle.wake.proofs.Parts.{least_named, sooner_named}
 use Rattle.wake.proofs.current_next.Goals as goal
 
-pub returns-then-moved : goal.returns-then-moved
-unfolding elicit_instants
-returns-then-moved c = simp (c.if-moved.true, c.fin_next-f.ensures, c.if-some.true, append-nil)
+pub returns-then-e : goal.returns-then-e
+unfolding current_instants
+returns-then-e c =
+    let ep = c.args.e.now.ep in
+    rw c.if-e.true
+    (sooner_named _ _ _ (fin_instants ep.fin) (elicit_instants ep.moved.some ep.elicit) c.sooner.ensures (least_named _ _ c.fin_next.ensures) (least_named _ _ c.elicit_next-elicit.ensures))
 
-pub returns-then-some : goal.returns-then-some
-unfolding elicit_instants
-returns-then-some c = simp (c.sooner.ensures, c.may_next.ensures, c.if-moved.false, c.fin_next-f.ensures, c.if-some.true, earliest_append)
-
-pub returns : goal.returns
-unfolding elicit_instants
-returns c = simp (c.if-some.false, earliest_nil)
+pub returns-else-e : goal.returns-else-e
+unfolding current_instants
+returns-else-e c = rw c.if-e.false (sym earliest_nil)

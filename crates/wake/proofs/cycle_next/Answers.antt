@@ -1,19 +1,25 @@
-use mathlib.Core.Path.{◌∙◌}
-use Rattle.wake.proofs.Parts.{rest-next}
-use Rattle.wake.specs.Wake.{cycle_instants}
-use Rattle.wake.proofs.Earliest.{earliest_one}
-use Rattle.wake.proofs.Earliest.{earliest_append}
-use borrow.Author.Tests.{eq-eqb, ne_eqb}
+use Rattle.std.proofs.Common.{sym, [], ◌∷◌, Some}
+use Rattle.wake.specs.Due.{ladder_instants, cycle_with}
+use Rattle.wake.proofs.Earliest.{earliest_one, earliest_nil}
+use Rattle.wake.proofs.Parts.{least_next, sooner_named}
 use Rattle.wake.proofs.cycle_next.Goals as goal
 
-pub returns-then-c-eq-INIT : goal.returns-then-c-eq-INIT
-unfolding cycle_instants
-returns-then-c-eq-INIT c = simp (c.by.ensures, c.ladder_next.ensures, eq-eqb _ _ c.if-c-eq-INIT.true, earliest_append, earliest_one)
+pub returns-in-Init : goal.returns-in-Init
+unfolding cycle_with
+returns-in-Init c = λ l e.
+    rw c.in-Init.ensures.init
+    (sooner_named _ (Some c.args.c.now.init.deadline) _ (ladder_instants c.args.c.now.init.ladder) (c.args.c.now.init.deadline ∷ []) c.sooner.ensures (least_next _ _ c.next_at.ensures) (sym (earliest_one _)))
 
-pub returns-then-c-eq-PENDI : goal.returns-then-c-eq-PENDI
-unfolding cycle_instants
-returns-then-c-eq-PENDI c = simp (c.pending_next.ensures, eq-eqb _ _ c.if-c-eq-PENDI.true, ne_eqb _ _ c.if-c-eq-INIT.false)
+pub returns-in-PendI : goal.returns-in-PendI
+unfolding cycle_with
+returns-in-PendI c = λ l e. rw (c.in-PendI.ensures.init, c.in-PendI.ensures.pend_i) e
 
-pub returns : goal.returns
-unfolding cycle_instants
-returns c = c.given.ensures ∙ rest-next c.args.c c.if-c-eq-INIT.false c.if-c-eq-PENDI.false
+pub returns-in-PendR : goal.returns-in-PendR
+unfolding cycle_with
+returns-in-PendR c = λ l e.
+    rw (c.in-PendR.ensures.init, c.in-PendR.ensures.pend_i, c.in-PendR.ensures.pend_r) (sym (earliest_one _))
+
+pub returns-in-Idle : goal.returns-in-Idle
+unfolding cycle_with
+returns-in-Idle c = λ l e.
+    rw (c.in-Idle.ensures.init, c.in-Idle.ensures.pend_i, c.in-Idle.ensures.pend_r) (sym earliest_nil)

@@ -1,12 +1,6 @@
-use mathlib.Core.Path.{◌∙◌, ap}
-use Rattle.time.specs.Time.{sooner_of}
-use Rattle.wake.proofs.Parts.{least_of}
-use Rattle.wake.specs.Due.{cycle_due, current_instants, due_instants}
+use Rattle.wake.specs.Due.{cycle_due, cycle_with, due_instants}
 use Rattle.wake.proofs.due_next.Goals as goal
 
 pub returns : goal.returns
-unfolding due_instants current_instants
-returns c =
-    c.sooner-3.ensures
-    ∙ (ap (sooner_of c.given-drain.result) (c.sooner-2.ensures ∙ ap (sooner_of c.earliest-waiting.result) c.sooner.ensures)
-    ∙ least_of c.args.s c.given-drain.result c.earliest-waiting.result c.cycle_due-cycle.result c.current_next-current.result (cycle_due c.args.s.cycle) c.given-drain.ensures c.earliest-waiting.ensures c.cycle_due-cycle.ensures c.current_next-current.ensures)
+unfolding due_instants cycle_due cycle_with
+returns c = c.standing_next.ensures (cycle_due c.args.s.now.cycle) (c.cycle_next.ensures _ c.pending_due-pending.ensures)

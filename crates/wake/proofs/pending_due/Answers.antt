@@ -1,17 +1,21 @@
-use Rattle.wake.specs.Due.{pending_due}
+use Rattle.std.proofs.Common.{sym, [], ◌∷◌, Some}
+use Rattle.wake.specs.Due.{may_instants, fin_instants, pending_due}
 use Rattle.wake.proofs.Earliest.{earliest_one}
-use Rattle.wake.proofs.Earliest.{earliest_append}
-use borrow.Author.Tests.{eq-eqb, ne_eqb}
+use Rattle.wake.proofs.Parts.{least_named, sooner_named}
 use Rattle.wake.proofs.pending_due.Goals as goal
 
-pub returns-then-wait-eq-HELD : goal.returns-then-wait-eq-HELD
+pub returns-in-Held : goal.returns-in-Held
 unfolding pending_due
-returns-then-wait-eq-HELD c = simp (eq-eqb _ _ c.if-wait-eq-HELD.true, earliest_one)
+returns-in-Held c = rw c.in-Held.ensures.held (sym (earliest_one _))
 
-pub returns-then-wait-eq-EVIDENCE : goal.returns-then-wait-eq-EVIDENCE
+pub returns-in-Evidence : goal.returns-in-Evidence
 unfolding pending_due
-returns-then-wait-eq-EVIDENCE c = simp (c.by.ensures, c.may_next.ensures, eq-eqb _ _ c.if-wait-eq-EVIDENCE.true, ne_eqb _ _ c.if-wait-eq-HELD.false, earliest_append, earliest_one)
+returns-in-Evidence c =
+    rw (c.in-Evidence.ensures.held, c.in-Evidence.ensures.evidence)
+    (sooner_named _ (Some c.args.p.now.deadline) _ (may_instants c.args.p.now.probes) (c.args.p.now.deadline ∷ []) c.sooner.ensures (least_named _ _ c.may_next.ensures) (sym (earliest_one _)))
 
-pub returns : goal.returns
+pub returns-in-Delay : goal.returns-in-Delay
 unfolding pending_due
-returns c = simp (c.by-2.ensures, c.fin_next.ensures, ne_eqb _ _ c.if-wait-eq-EVIDENCE.false, ne_eqb _ _ c.if-wait-eq-HELD.false, earliest_append, earliest_one)
+returns-in-Delay c =
+    rw (c.in-Delay.ensures.held, c.in-Delay.ensures.evidence)
+    (sooner_named _ (Some c.args.p.now.deadline) _ (fin_instants c.args.p.now.fin) (c.args.p.now.deadline ∷ []) c.sooner-in-Delay.ensures (least_named _ _ c.fin_next.ensures) (sym (earliest_one _)))

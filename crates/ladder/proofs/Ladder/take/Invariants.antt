@@ -1,13 +1,11 @@
-use Prim.Native.Nat.{◌-◌}
-use mathlib.Core.Path.{◌≡◌}
-use Rattle.time.specs.Lists.{fold}
+use Rattle.std.specs.Prelude.{◌-◌}
 use Rattle.ladder.specs.Schedule.{max_rungs}
-use Rattle.ladder.specs.Ladder.{taking, due_from}
+use Rattle.ladder.proofs.SoFar.{Ahead}
 use Rattle.ladder.proofs.Ladder.take.Given as goal
 
--- what is taken from the cursor on is all that is taken
-abbrev pub invariant-loop-t : goal.invariant-loop-t
-invariant-loop-t l = fold taking l.initial.t (due_from l.self l.now l.initial.t.next) ≡ fold taking l.t (due_from l.self l.now l.t.next)
+-- what is taken so far and from the cursor on is all that is taken
+abbrev pub invariant-loop-self : goal.invariant-loop-self
+invariant-loop-self l = Ahead l.fn.self l.self l.so_far l.now
 
-abbrev pub decreases-loop-t : goal.decreases-loop-t
-decreases-loop-t l = max_rungs - l.t.next
+abbrev pub decreases-loop-self : goal.decreases-loop-self
+decreases-loop-self l = max_rungs - l.self.next

@@ -4,10 +4,10 @@ use Prim.Native.Nat.{◌≤◌, ◌<◌, ◌-◌, ◌+◌, ◌*◌, ◌/◌}
 use mathlib.Core.Path.{◌≡◌, refl, sym, ◌∙◌, ap}
 use mathlib.Core.List.{◌∷◌, map}
 use mathlib.Core.Logic.{◌⊎◌, inl, inr, ⊎_elim}
-use native.Mathlib.Nat.{sub-zero, le-div_iff_mul-le, le_of_lt}
+use native.Mathlib.Nat.{sub-zero, le-div_iff_mul-le}
 use lib.ListN.{length, length-map}
 use Rattle.time.specs.Lists.{fold, range, range-more, length-range}
-use Rattle.time.specs.Laws.{least-le, least-left, least-right, decide}
+use Rattle.time.specs.Laws.{decide}
 use Rattle.ladder.specs.Schedule.{max_rungs, keepalive, keepalives}
 use Rattle.ladder.proofs.Laws.{fresh-put, put-len, rest-counted}
 use Rattle.ladder.specs.Fill.{put_of, losing}
@@ -16,7 +16,7 @@ use Rattle.ladder.proofs.Made.fill.Goals as goal
 -- a keepalive that is put lies before next
 within : (c : goal.In-loop-i) → (c.loop-i.i + 1) * c.args.gap ≤ c.between.result
 within c =
-    let q : c.loop-i.i + 1 ≤ c.between.result / c.args.gap = omega (arith, c.loop-i-test.true, c.min-n.ensures, (least-le (c.between.result / c.args.gap) c.since-room.result).0) in
+    let q : c.loop-i.i + 1 ≤ c.between.result / c.args.gap = omega (arith, c.loop-i-test.true, c.min-n.ensures) in
     (le-div_iff_mul-le {k = c.args.gap} {x = c.loop-i.i + 1} {y = c.between.result} c.requires.gap_nonzero).0 q
 
 pub loop-i-init : goal.loop-i-init
@@ -36,9 +36,6 @@ overflow_add-last c =
 pub put-made-requires : goal.put-made-requires
 put-made-requires c = c.loop-i.invariant.1.0
 
-pub overflow_add-i-in-loop-i : goal.overflow_add-i-in-loop-i
-overflow_add-i-in-loop-i c = omega arith
-
 pub loop-i-smaller : goal.loop-i-smaller
 loop-i-smaller c = omega arith
 
@@ -47,9 +44,8 @@ unfolding fold
 loop-i-preserved c =
     let all = c.between.result / c.args.gap in
     let r = keepalive (c.args.last + (c.loop-i.i + 1) * c.args.gap) in
-    let low = least-le all c.since-room.result in
-    let has : c.loop-i.made.sched.len < max_rungs = omega (arith, c.loop-i-test.true, c.min-n.ensures, low.1, c.since-room.ensures, c.loop-i.invariant.1.1.1.0) in
-    let less : 0 < all - c.loop-i.i = omega (arith, c.loop-i-test.true, c.min-n.ensures, low.0) in
+    let has : c.loop-i.made.sched.len < max_rungs = omega (arith, c.loop-i-test.true, c.min-n.ensures, c.saturating_sub-room.ensures, c.loop-i.invariant.1.1.1.0) in
+    let less : 0 < all - c.loop-i.i = omega (arith, c.loop-i-test.true, c.min-n.ensures) in
     let k : all - c.loop-i.i - 1 ≡ all - (c.loop-i.i + 1) = omega arith in
     let grown = put-len max_rungs c.loop-i.made r has in (
       omega arith,
@@ -69,18 +65,17 @@ loop-i-preserved c =
 
 pub overflow_sub-all : goal.overflow_sub-all
 overflow_sub-all c =
-    omega (arith, c.min-n.ensures, (least-le (c.between.result / c.args.gap) c.since-room.result).0)
+    omega (arith, c.min-n.ensures)
 
 pub returns : goal.returns
 unfolding keepalives
 returns c =
     let all = c.between.result / c.args.gap in
     let rest = map (λ k. keepalive (c.args.last + k * c.args.gap)) (range (c.loop-i.i + 1) (all - c.loop-i.i)) in
-    let low = least-le all c.since-room.result in
     let same : c.loop-i.i ≡ c.min-n.result = omega (arith, c.loop-i-test.false, c.loop-i.invariant.0) in
     let small : c.loop-i.made.dropped ≤ 255 = omega (arith, c.loop-i.invariant.1.1.0, c.well_formed) in
     let long : length rest ≡ all - c.min-n.result = length-map (range (c.loop-i.i + 1) (all - c.loop-i.i)) (λ k. keepalive (c.args.last + k * c.args.gap)) ∙ (length-range (c.loop-i.i + 1) (all - c.loop-i.i) ∙ ap (λ k. all - k) same) in
-    let done : (length rest ≡ 0) ⊎ (max_rungs ≤ c.loop-i.made.sched.len) = ⊎_elim (λ h. inl (omega (arith, long, c.min-n.ensures, least-left {a = all} {b = c.since-room.result} h))) (λ h. inr (omega (arith, same, c.min-n.ensures, least-right {a = all} {b = c.since-room.result} (le_of_lt h), c.since-room.ensures, c.loop-i.invariant.1.1.1.0))) (decide all c.since-room.result) in
+    let done : (length rest ≡ 0) ⊎ (max_rungs ≤ c.loop-i.made.sched.len) = ⊎_elim (λ h. inl (omega (arith, long, c.min-n.ensures))) (λ h. inr (omega (arith, same, c.min-n.ensures, c.saturating_sub-room.ensures, c.loop-i.invariant.1.1.1.0))) (decide all c.saturating_sub-room.result) in
     let whole : all ≡ (c.args.next - c.args.last - 1) / c.args.gap = ap (λ k. k / c.args.gap) c.between.ensures in
     c.lose.ensures
     ∙ (ap (losing c.loop-i.made) (sym long)

@@ -1,6 +1,7 @@
-use Prim.Native.Nat.{◌≤◌, ◌-◌}
+use Prim.Native.Nat.{◌-◌}
 use mathlib.Core.Path.{◌≡◌}
 use mathlib.Core.List.{map}
+use Rattle.time.specs.Options.{when_of}
 use Rattle.time.specs.Lists.{fold, range}
 use Rattle.ladder.specs.Schedule.{max_rungs, doubled}
 use Rattle.ladder.specs.Laws.{Fresh}
@@ -10,7 +11,4 @@ use Rattle.ladder.proofs.Schedule.doubling.Given as goal
 -- what is offered from i on is all that is offered
 abbrev pub invariant-loop-i : goal.invariant-loop-i
 invariant-loop-i l =
-    (l.i ≤ l.count) × (Fresh l.made × (fold (offered max_rungs l.end) l.initial.made (map (doubled l.f) (range 0 l.count)) ≡ fold (offered max_rungs l.end) l.made (map (doubled l.f) (range l.i (l.count - l.i)))))
-
-abbrev pub decreases-loop-i : goal.decreases-loop-i
-decreases-loop-i l = l.count - l.i
+    Fresh l.made × (fold (offered max_rungs (when_of l.end)) l.initial.made (map (doubled l.f) (range 0 l.count)) ≡ fold (offered max_rungs (when_of l.end)) l.made (map (doubled l.f) (range l.i (l.count - l.i))))

@@ -1,16 +1,16 @@
 use borrow.Author.Rules.{rules}
 use native.Mathlib.Omega.{arith}
-use Prim.Native.Nat.{ℕ, suc, ◌≤◌, ◌<◌, ◌-◌}
+use Prim.Native.Nat.{ℕ, suc, ◌≤◌}
 use mathlib.Core.Path.{◌≡◌, refl, sym, ◌∙◌, ap, ap₂}
 use mathlib.Core.List.{map}
 use native.Mathlib.Numerals.{add-one}
 use lib.ListN.{length, get_or}
 use lib.Seq.{slice, slice-cons, slice_empty}
 use Rattle.time.specs.Lists.{fold}
-use Rattle.time.specs.Time.{at, most as time_most}
+use Rattle.time.specs.Time.{at}
 use Rattle.ladder.specs.declared.Made.{Made}
 use Rattle.ladder.specs.declared.Schedule.{Schedule}
-use Rattle.time.specs.Laws.{most_ge}
+use Rattle.time.proofs.Std.{max_most}
 use Rattle.ladder.specs.Schedule.{max_rungs, made_of, doubling_of, filled, held_of, keepalives, send}
 use Rattle.ladder.proofs.Rungs.{held-most, offsets-laid}
 use Rattle.ladder.specs.Laws.{Fresh}
@@ -24,31 +24,16 @@ unfolding made_of
 places first count end d e =
     ap (λ m. length m.sched.at) e ∙ length-laid max_rungs (doubling_of max_rungs first count (at end)).rungs (plan-most max_rungs first count (at end)).0
 
-most : (s : Schedule) (n : ℕ) → n ≡ held_of max_rungs s → n ≤ max_rungs
-most s n e = omega (arith, e, held-most max_rungs s)
-
-gap_positive : (gap g : ℕ) → g ≡ time_most gap 1 → 0 < g
-gap_positive gap g e = rw e (most_ge gap 1).1
-
 pub loop-i-init : goal.loop-i-init
 unfolding Fresh
 loop-i-init c = (search rules, (omega arith, refl))
 
-pub offset_bounds-sends-i : goal.offset_bounds-sends-i
-offset_bounds-sends-i c = omega (arith, most _ _ c.rungs-n.ensures)
-
-pub bounds-sends-i : goal.bounds-sends-i
-bounds-sends-i c = omega (arith, most _ _ c.rungs-n.ensures)
-
 pub fill-made-requires : goal.fill-made-requires
-fill-made-requires c = record { fresh = c.loop-i.invariant.1.0; gap_nonzero = gap_positive _ _ c.max-g.ensures }
+fill-made-requires c = record { fresh = c.loop-i.invariant.1.0; gap_nonzero = omega (arith, c.max-g.ensures) }
 
 pub put-made-requires : goal.put-made-requires
 put-made-requires c =
     rw c.fill-made.ensures (fresh-all max_rungs c.loop-i.made _ c.loop-i.invariant.1.0)
-
-pub overflow_add-i : goal.overflow_add-i
-overflow_add-i c = omega (arith, most _ _ c.rungs-n.ensures)
 
 pub loop-i-smaller : goal.loop-i-smaller
 loop-i-smaller c = omega arith
@@ -56,7 +41,7 @@ loop-i-smaller c = omega arith
 pub loop-i-preserved : goal.loop-i-preserved
 loop-i-preserved c =
     let t = get_or c.doubling-d.result.sched.at c.loop-i.i 0 in
-    let h : c.rungs-n.result ≤ length c.doubling-d.result.sched.at = omega (arith, places _ _ _ _ c.doubling-d.ensures, most _ _ c.rungs-n.ensures) in
+    let h : c.rungs-n.result ≤ length c.doubling-d.result.sched.at = omega (arith, places _ _ _ _ c.doubling-d.ensures, c.rungs-n.ensures.within) in
     let made : c.put-made.result ≡ put_of max_rungs (fold (put_of max_rungs) c.loop-i.made (keepalives c.max-g.result c.loop-i.last t)) (send t) = c.put-made.ensures ∙ ap (λ m. put_of max_rungs m (send t)) c.fill-made.ensures in (
       omega arith,
       (
@@ -69,7 +54,7 @@ loop-i-preserved c =
     )
 
 pub fill-requires : goal.fill-requires
-fill-requires c = record { fresh = c.loop-i.invariant.1.0; gap_nonzero = gap_positive _ _ c.max-g.ensures }
+fill-requires c = record { fresh = c.loop-i.invariant.1.0; gap_nonzero = omega (arith, c.max-g.ensures) }
 
 pub returns : goal.returns
 unfolding made_of
@@ -78,11 +63,11 @@ returns c =
     let plan = doubling_of max_rungs c.args.first c.args.count (at c.args.end) in
     let bounds = plan-most max_rungs c.args.first c.args.count (at c.args.end) in
     let made : c.doubling-d.result ≡ made_of max_rungs plan = c.doubling-d.ensures in
-    let sends : slice 0 c.rungs-n.result c.doubling-d.result.sched.at ≡ map (λ r. r.offset) plan.rungs = ap (λ k. slice 0 k c.doubling-d.result.sched.at) c.rungs-n.ensures ∙ (ap (λ m. slice 0 (held_of max_rungs m.sched) m.sched.at) made ∙ offsets-laid max_rungs plan.rungs bounds.0) in
+    let sends : slice 0 c.rungs-n.result c.doubling-d.result.sched.at ≡ map (λ r. r.offset) plan.rungs = ap (λ k. slice 0 k c.doubling-d.result.sched.at) c.rungs-n.ensures.value ∙ (ap (λ m. slice 0 (held_of max_rungs m.sched) m.sched.at) made ∙ offsets-laid max_rungs plan.rungs bounds.0) in
     c.fill.ensures
     ∙ (ap (fold (put_of max_rungs) c.loop-i.made) (sym (filled-end c.max-g.result c.args.end c.loop-i.last))
     ∙ (ap (λ v. fold (put_of max_rungs) c.loop-i.made (filled c.max-g.result c.args.end c.loop-i.last v)) (sym (slice_empty c.rungs-n.result c.doubling-d.result.sched.at) ∙ ap (λ k. slice k c.rungs-n.result c.doubling-d.result.sched.at) (sym same))
     ∙ (sym c.loop-i.invariant.1.1
     ∙ (ap₂ (λ k v. fold (put_of max_rungs) (none_yet k) (filled c.max-g.result c.args.end 0 v)) (ap (λ m. m.dropped) made) sends
-    ∙ (ap (λ k. fold (put_of max_rungs) (none_yet plan.dropped) (filled k c.args.end 0 (map (λ r. r.offset) plan.rungs))) c.max-g.ensures
+    ∙ (ap (λ k. fold (put_of max_rungs) (none_yet plan.dropped) (filled k c.args.end 0 (map (λ r. r.offset) plan.rungs))) (c.max-g.ensures ∙ max_most c.args.gap 1)
     ∙ probes-all c.args.first c.args.count c.args.end c.args.gap bounds.1)))))

@@ -2,7 +2,6 @@ use Prim.Native.Nat.{◌≤◌, ◌-◌}
 use mathlib.Core.Path.{◌≡◌}
 use lib.Seq.{slice}
 use Rattle.time.specs.Lists.{fold}
-use Rattle.time.specs.Time.{at}
 use Rattle.ladder.specs.Schedule.{max_rungs, filled}
 use Rattle.ladder.specs.Laws.{Fresh}
 use Rattle.ladder.specs.Fill.{put_of}

@@ -1,0 +1,6 @@
+use Rattle.refusal.proofs.Standing.{tags-held}
+use Rattle.refusal.proofs.tags_repeat.Goals as goal
+
+pub returns : goal.returns
+returns c =
+    tags-held c.args.s.now _ _ _ c.then_some-cur.ensures c.pending_tag-pending.ensures c.then_some-drained.ensures c.tags_bad.result c.tags_bad.ensures

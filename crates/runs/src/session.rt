@@ -1,0 +1,86 @@
+// What the program holds from line to line.
+use numbers::cycle::Stage;
+use numbers::slot::Slot;
+use runs_telling::Head;
+use settings::Config;
+use state::{Profile, State};
+use text_calls::Link;
+use text_words::Call;
+
+// The settings and the profile; the state of the link, once one is there; how many calls there were, and
+// the instant of the last; the latest instant since the link was opened or given; and whether lines are
+// explained.
+#[derive(Clone, Copy)]
+pub struct Session {
+    pub cfg: Config,
+    pub profile: Profile,
+    pub state: Option<State>,
+    pub calls: u64,
+    pub time: u64,
+    pub latest: u64,
+    pub explain: bool,
+}
+
+impl Session {
+    // The settings of a link that names no others, two messages, and all else off or 0.
+    pub fn new() -> Session {
+        Session {
+            cfg: Config::fmp(),
+            profile: text_records::plain_profile(),
+            state: None,
+            calls: 0,
+            time: 0,
+            latest: 0,
+            explain: false,
+        }
+    }
+
+    // The link; before one is there, with a state of which no call reads anything.
+    pub fn link(&self) -> Link {
+        Link {
+            state: self.state.unwrap_or_else(text_records::blank_state),
+            cfg: self.cfg,
+            profile: self.profile,
+        }
+    }
+
+    // Counts a call at `now`, and answers the latest instant where that lies after `now`. An `open`
+    // begins anew.
+    pub fn count(&mut self, call: Call, now: u64) -> Option<u64> {
+        let latest = self.latest;
+        self.calls = self.calls.saturating_add(1);
+        self.time = now;
+        if call == Call::Open {
+            self.latest = now;
+            return None;
+        }
+        self.latest = latest.max(now);
+        (now < latest).then_some(latest)
+    }
+
+    // What stands before each line of the call that was counted last.
+    pub fn head(&self) -> Head {
+        Head {
+            call: self.calls,
+            time: self.time,
+            explain: self.explain,
+        }
+    }
+
+    // The tag of the epoch in a slot, 0 where no link is there.
+    pub fn tag(&self, slot: Slot) -> u64 {
+        match &self.state {
+            Some(state) => tag_of(state, slot),
+            None => 0,
+        }
+    }
+}
+
+fn tag_of(state: &State, slot: Slot) -> u64 {
+    match slot {
+        Slot::Current => state.cur.ep.tag,
+        Slot::Pending if state.cycle.stage() == Stage::PendI => state.cycle.pendi.ep.tag,
+        Slot::Pending => state.cycle.pendr.ep.tag,
+        Slot::Previous => state.drain.ep.tag,
+    }
+}

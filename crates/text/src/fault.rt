@@ -1,0 +1,29 @@
+use std::fmt;
+
+// What is wrong with a field: it is missing, is empty, has a byte that is no decimal digit, is
+// above the most that is allowed, is one too many, is none of the words that can stand there, is no
+// buffer in hex, or names what another field has named.
+#[derive(Clone, Copy, PartialEq, Eq)]
+pub enum Fault {
+    Missing,
+    Empty,
+    NotDigit,
+    TooLarge,
+    Extra,
+    NotWord,
+    NotHex,
+    Twice,
+}
+
+// The end of a sentence about the field.
+impl fmt::Display for Fault {
+    fn fmt<W: fmt::Write>(&self, f: &mut fmt::Formatter<W>) -> fmt::Result {
+        f.write_str(match self {
+            Fault::Missing => "is missing",
+            Fault::Empty | Fault::NotDigit => "is not a number",
+            Fault::TooLarge => "is too large",
+            Fault::Extra => "is one too many",
+            Fault::NotWord | Fault::NotHex | Fault::Twice => "is not a known word",
+        })
+    }
+}
