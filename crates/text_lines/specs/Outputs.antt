@@ -1,5 +1,5 @@
 -- Bytes put into a buffer. A buffer is the list of its bytes.
-use Rattle.std.specs.Prelude.{ℕ, zero, suc, ◌+◌, ◌-◌, ◌/◌, ◌%◌, min, Bool, cond, List, [], ◌∷◌, ◌++◌, length, leb, ltb}
+use Rattle.std.specs.Prelude.{ℕ, zero, suc, ◌+◌, ◌-◌, ◌/◌, ◌%◌, min, Bool, cond, List, [], ◌∷◌, ◌++◌, length, leb, ltb, Option, Some, None}
 use Rattle.std.proofs.Math.Seq.{paste}
 
 -- how many of n bytes fit from index `at` on below `len`
@@ -32,3 +32,19 @@ decimal (suc k) n = cond (ltb n 10) ((48 + n) ∷ []) (decimal k (n / 10) ++ ((4
 -- the decimal digits of a number below 2^64, which has at most 20
 abbrev pub decimal_of : ℕ → List ℕ
 decimal_of n = decimal 20 n
+
+-- what a buffer holds once a space (32) is put and then the decimal digits of n, and up to which index
+abbrev pub spaced : List ℕ → ℕ → ℕ → List ℕ
+spaced d at n = held (held d at (32 ∷ [])) (held_to d at (32 ∷ [])) (decimal_of n)
+
+abbrev pub spaced_to : List ℕ → ℕ → ℕ → ℕ
+spaced_to d at n = held_to (held d at (32 ∷ [])) (held_to d at (32 ∷ [])) (decimal_of n)
+
+-- the same of a number that may be absent, in whose place the bytes `none` are put
+abbrev pub spaced_or : List ℕ → ℕ → Option ℕ → List ℕ → List ℕ
+spaced_or d at (Some n) none = spaced d at n
+spaced_or d at None none = held d at none
+
+abbrev pub spaced_or_to : List ℕ → ℕ → Option ℕ → List ℕ → ℕ
+spaced_or_to d at (Some n) none = spaced_to d at n
+spaced_or_to d at None none = held_to d at none

@@ -1,6 +1,6 @@
 // Bytes and numbers put into a lent buffer.
 ghost use Rattle.std.specs.Prelude.{◌≡◌, ◌+◌, leb};
-ghost use Rattle.text_lines.specs.Outputs.{written, written_to, held, held_to, decimal_of};
+ghost use Rattle.text_lines.specs.Outputs.{written, written_to, held, held_to, decimal_of, spaced, spaced_to, spaced_or, spaced_or_to};
 
 // Copies `s` into `out` from index `at` on, as far as `out` reaches, and answers the index after
 // what was copied.
@@ -93,6 +93,28 @@ impl<'r, 'b, R: Print> Output<'r, 'b, R> {
         let mut digits = [0u8; 20];
         let k = io::decimal(n, &mut digits);
         self.bytes(&digits[..k]);
+    }
+
+    // Puts a space and then the decimal digits of `n`.
+    pub fn spaced(&mut self, n: u64)
+        ensures same_reference { self.new.buffer.ghost_name ≡ self.old.buffer.ghost_name }
+        ensures buffer { self.new.buffer.now ≡ spaced self.old.buffer.now self.old.at n }
+        ensures at { self.new.at ≡ spaced_to self.old.buffer.now self.old.at n }
+    {
+        self.bytes(b" ");
+        self.number(n);
+    }
+
+    // Puts a number that is there as `spaced` does, and else `none`.
+    pub fn spaced_or(&mut self, n: Option<u64>, none: &[u8])
+        ensures same_reference { self.new.buffer.ghost_name ≡ self.old.buffer.ghost_name }
+        ensures buffer { self.new.buffer.now ≡ spaced_or self.old.buffer.now self.old.at n none.now }
+        ensures at { self.new.at ≡ spaced_or_to self.old.buffer.now self.old.at n none.now }
+    {
+        match n {
+            Some(n) => self.spaced(n),
+            None => self.bytes(none),
+        }
     }
 }
 
