@@ -1,6 +1,6 @@
 // The rows of the poll that change the whole state: a candidate that is dropped, and the three that may cut
 // over (`expire_pass` of machine.rs). The spread goes beside what a call is given, here and in the crates above:
-// a signed number in a record is dear to prove (`Given` of state).
+// `Given` crosses to C, which gives the spread as an argument of its own.
 #![tactic(auto)]
 
 ghost use Rattle.std.specs.Prelude.{◌≡◌};
@@ -63,7 +63,8 @@ fn cut_by(s: State, g: Given, spread: i32, evidence: Evidence, log: &mut Log) ->
     }
 }
 
-// The completion itself proves the peer holds the keys.
+// The completion itself proves the peer holds the keys. Apart from `delay_end`, which differs in the wait and
+// the evidence: a function of both would take these two more, and is one test and one call as well.
 #[tactic(auto, unfolding(crate::specs::Cut::held_due))]
 pub fn held_due(s: State, g: Given, spread: i32, tag: u64, log: &mut Log) -> Ran
     ensures { Did (held_due s g spread tag) log.old result log.new }

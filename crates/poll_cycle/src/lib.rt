@@ -5,7 +5,7 @@
 ghost use Rattle.std.specs.Prelude.{◌≡◌, [], ◌∷◌, ◌++◌, Some};
 ghost use Rattle.time.specs.Options.{when_of};
 ghost use Rattle.ladder.specs.Took.{took_of};
-ghost use Rattle.numbers.specs.Numbers.{abandon_unanswered, teardown_opening_failed};
+ghost use Rattle.numbers.specs.Numbers.{kind_msg3, abandon_unanswered, teardown_opening_failed};
 ghost use Rattle.numbers.specs.Cases.{message_no};
 ghost use Rattle.events.specs.Events.{Send, Prompt, Teardown as TeardownTold};
 ghost use Rattle.events.specs.Told.{Tells};
@@ -63,7 +63,7 @@ fn late(p: PendI, grace: u64, time: u64) -> bool
 // A probe's events, and the rung's prompt under the current epoch, each with the number of rungs taken.
 #[tactic(auto, using(retire::proofs::Told::tells_then))]
 fn probe_out(fin: Final, tag: u64, current: u64, rungs: u64, log: &mut Log)
-    ensures { Tells (only fin.some (Send fin.msg 4 rungs) ++ (Prompt tag rungs ∷ Prompt current rungs ∷ [])) log.old log.new }
+    ensures { Tells (only fin.some (Send fin.msg kind_msg3 rungs) ++ (Prompt tag rungs ∷ Prompt current rungs ∷ [])) log.old log.new }
 {
     if fin.some {
         log.send(fin.msg, Message::Msg3, rungs);
