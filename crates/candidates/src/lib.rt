@@ -101,6 +101,21 @@ fn pairs(a: &[u64; 32], n: usize) -> bool
 }
 
 impl Candidates {
+    pub const NONE: Candidates = Candidates {
+        hs: [0; 32],
+        msg1: [0; 32],
+        ack: [0; 32],
+        carrier: [0; 32],
+        route: [0; 32],
+        born: [0; 32],
+        deadline: [0; 32],
+        bounded: [0; 32],
+        bound: [0; 32],
+        seq: [0; 32],
+        len: 0,
+        next: 0,
+    };
+
     // How many are held, whatever the count claims: one above 32 is sent back before it is read.
     #[tactic(auto, using(time::proofs::Std::min_least), unfolding(crate::specs::Held::held_of))]
     fn held(&self) -> usize

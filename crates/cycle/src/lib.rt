@@ -30,6 +30,20 @@ pub struct Attempt {
     pub resent: bool,
 }
 
+impl Attempt {
+    // What stands in a cycle without one: zeros.
+    pub const BLANK: Attempt = Attempt {
+        hs: 0,
+        out: 0,
+        lease: Index::NONE,
+        transport: 0,
+        first: 0,
+        ladder: Ladder::EMPTY,
+        deadline: 0,
+        resent: false,
+    };
+}
+
 // An own attempt that completed. The wait is a number of `numbers::wait`; any other counts as a delay.
 #[repr(C)]
 #[derive(Clone, Copy)]
@@ -69,6 +83,19 @@ pub struct Cycle {
 }
 
 impl PendI {
+    // What stands in a cycle without one: zeros.
+    pub const BLANK: PendI = PendI {
+        ep: Epoch::BLANK,
+        wait: numbers::wait::HELD,
+        deadline: 0,
+        restart: false,
+        fin: Final::NONE,
+        probes: MayLadder::NONE,
+        probed: When::NONE,
+        stayed: false,
+        reverted: false,
+    };
+
     // What it waits for.
     pub fn waits(&self) -> Wait
         ensures held { waits_held self.now.wait ≡ at_held result }
@@ -79,7 +106,25 @@ impl PendI {
     }
 }
 
+impl PendR {
+    // What stands in a cycle without one: zeros.
+    pub const BLANK: PendR = PendR {
+        ep: Epoch::BLANK,
+        deadline: 0,
+        restart: false,
+        answer: When::NONE,
+    };
+}
+
 impl Cycle {
+    // Nothing in progress.
+    pub const IDLE: Cycle = Cycle {
+        kind: numbers::cycle::IDLE,
+        init: Attempt::BLANK,
+        pendi: PendI::BLANK,
+        pendr: PendR::BLANK,
+    };
+
     // The kind of its case.
     pub fn stage(&self) -> Stage
         ensures init { is_init self.now.kind ≡ at_init result }

@@ -45,6 +45,14 @@ pub struct Ids {
     pub transport: u64,
 }
 
+impl Ids {
+    pub const NONE: Ids = Ids {
+        lease: Index::NONE,
+        theirs: Index::NONE,
+        transport: 0,
+    };
+}
+
 // A retained final message and its resend ladder, if there is one.
 #[repr(C)]
 #[derive(Clone, Copy)]
@@ -54,12 +62,27 @@ pub struct Final {
     pub ladder: Ladder,
 }
 
+impl Final {
+    pub const NONE: Final = Final {
+        some: false,
+        msg: 0,
+        ladder: Ladder::EMPTY,
+    };
+}
+
 // A ladder that may be absent.
 #[repr(C)]
 #[derive(Clone, Copy)]
 pub struct MayLadder {
     pub some: bool,
     pub ladder: Ladder,
+}
+
+impl MayLadder {
+    pub const NONE: MayLadder = MayLadder {
+        some: false,
+        ladder: Ladder::EMPTY,
+    };
 }
 
 #[repr(C)]
@@ -96,12 +119,43 @@ pub struct Epoch {
     pub prompted: When,
 }
 
+impl Epoch {
+    // Every number 0, and nothing there: what stands behind a flag that is off.
+    pub const BLANK: Epoch = Epoch {
+        tag: 0,
+        session: 0,
+        sent: 0,
+        ids: Ids::NONE,
+        k: false,
+        responder: false,
+        base: When::NONE,
+        started: 0,
+        route: When::NONE,
+        ext: 0,
+        delegated: false,
+        floor: When::NONE,
+        heard: When::NONE,
+        moved: When::NONE,
+        assumed: false,
+        fin: Final::NONE,
+        elicit: MayLadder::NONE,
+        prompted: When::NONE,
+    };
+}
+
 // The current epoch, if there is one.
 #[repr(C)]
 #[derive(Clone, Copy)]
 pub struct MayEpoch {
     pub some: bool,
     pub ep: Epoch,
+}
+
+impl MayEpoch {
+    pub const NONE: MayEpoch = MayEpoch {
+        some: false,
+        ep: Epoch::BLANK,
+    };
 }
 
 // The previous epoch, kept after a cutover, if there is one.
@@ -113,6 +167,15 @@ pub struct Drain {
     pub deadline: u64,
     // The deadline is the short one, after evidence the peer moved.
     pub evidenced: bool,
+}
+
+impl Drain {
+    pub const NONE: Drain = Drain {
+        some: false,
+        ep: Epoch::BLANK,
+        deadline: 0,
+        evidenced: false,
+    };
 }
 
 // Whether something is held under `tag`.

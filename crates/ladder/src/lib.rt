@@ -256,6 +256,13 @@ fn sent(before: Option<Taken>) -> bool
 }
 
 impl Ladder {
+    // A ladder without rungs.
+    pub const EMPTY: Ladder = Ladder {
+        origin: 0,
+        sched: Schedule::EMPTY,
+        next: 0,
+    };
+
     // A ladder whose first rung is the schedule's first offset after `origin`.
     pub fn new(origin: u64, sched: Schedule) -> Ladder
         ensures { result ≡ anew origin sched }

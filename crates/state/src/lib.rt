@@ -16,6 +16,13 @@ pub struct Bit {
     pub on: bool,
 }
 
+impl Bit {
+    pub const NONE: Bit = Bit {
+        some: false,
+        on: false,
+    };
+}
+
 // Facts that survive Idle, kept outside the cycle.
 #[repr(C)]
 #[derive(Clone, Copy)]
