@@ -94,7 +94,7 @@ fn give_up(d: Drain, old: Epoch, restart: bool, log: &mut Log)
 fn keeps(fin: Final, evidence: Evidence) -> bool
     ensures { result ≡ (kept_fin fin (evidence_no evidence)).some }
 {
-    fin.some && evidence == Evidence::Delay && fin.ladder.next_at().is_some()
+    fin.some && evidence == Evidence::Delay && fin.ladder.next_at().1.is_some()
 }
 
 // A retained final message of a delayed cutover whose ladder is spent: a repair falls due.
@@ -102,7 +102,7 @@ fn keeps(fin: Final, evidence: Evidence) -> bool
 fn spent(fin: Final, evidence: Evidence) -> bool
     ensures { result ≡ spent_of fin (evidence_no evidence) }
 {
-    fin.some && evidence == Evidence::Delay && fin.ladder.next_at().is_none()
+    fin.some && evidence == Evidence::Delay && fin.ladder.next_at().1.is_none()
 }
 
 #[tactic(auto, unfolding(crate::specs::Cutover::heard_now))]

@@ -24,3 +24,10 @@ take-lent l m now t e = (told m t ∙ ap told_by e, ladder t ∙ ap (λ k. k.lad
     ladder : (t : Option Taken) → m ≡ (took_of m t).ladder
     ladder None = refl
     ladder (Some t) = refl
+
+-- a ladder whose next index alone moves to that of the taken one is the taken one
+pub lent_take : (l m : Ladder) (now : ℕ) (t : Option Taken) → took_of m t ≡ take_of l now → took_of (moved_to l m.next) t ≡ take_of l now
+lent_take l m now t e = ap (λ k. took_of k t) (sym (whole l m now t e)) ∙ e
+  where
+    whole : (l m : Ladder) (now : ℕ) (t : Option Taken) → took_of m t ≡ take_of l now → m ≡ moved_to l m.next
+    whole l m now t e = let q = (take-lent l m now t e).1 in q ∙ ap (λ k. moved_to l k.next) (sym q)

@@ -2,6 +2,9 @@
 //
 // A schedule is a short list of offsets from an origin. A ladder is a schedule anchored at an
 // instant, with a cursor at the next rung. A late poll takes every overdue rung at once.
+//
+// `next_at`, `due` and `take` are the form that document 01 names for them: methods with self that hand
+// back the ladder and the answer. `take_lent` is the one call on a ladder lent for change, over `take`.
 #![tactic(auto)]
 
 ghost use Rattle.std.specs.Prelude.{◌≡◌, ◌<◌, ◌≤◌, ◌+◌, ◌-◌, ◌^◌, leb, Some};
@@ -289,18 +292,19 @@ impl Ladder {
 
     // The instant of the next rung, absent when every rung is taken.
     #[tactic(auto, using(crate::proofs::Laws::next_instant))]
-    pub fn next_at(self) -> Option<u64>
-        ensures { when_of result ≡ next_at_of self }
+    pub fn next_at(self) -> (Ladder, Option<u64>)
+        ensures { (result.0 ≡ self) × (when_of result.1 ≡ next_at_of self) }
     {
-        self.instant(self.next)
+        (self, self.instant(self.next))
     }
 
     // Whether a rung is due at `now`.
     #[tactic(auto, unfolding(crate::specs::Ladder::due_of))]
-    pub fn due(self, now: u64) -> bool
-        ensures { result ≡ due_of self now }
+    pub fn due(self, now: u64) -> (Ladder, bool)
+        ensures { (result.0 ≡ self) × (result.1 ≡ due_of self now) }
     {
-        self.next_at().is_some_and(|t| t <= now)
+        let (ladder, at) = self.next_at();
+        (ladder, at.is_some_and(|t| t <= now))
     }
 
     // Whether no rung is left; a length that claims more than fit has no last one.
@@ -332,14 +336,25 @@ impl Ladder {
         }
     }
 
-    // Takes every rung due at `now`; nothing where none is due.
-    pub fn take(&mut self, now: u64) -> Option<Taken>
+    // Every rung due at `now`; nothing where none is due.
+    pub fn take(self, now: u64) -> (Ladder, Option<Taken>)
+        ensures { took_of result.0 result.1 ≡ take_of self now }
+    {
+        let mut ladder = self;
+        let mut so_far = None;
+        while ladder.due(now).1 {
+            so_far = Some(ladder.step(so_far));
+        }
+        (ladder, so_far)
+    }
+
+    // Takes every rung due at `now` from a ladder lent for change.
+    #[tactic(auto, using(crate::proofs::Lent::lent_take))]
+    pub fn take_lent(&mut self, now: u64) -> Option<Taken>
         ensures { took_of self.new result ≡ take_of self.old now }
     {
-        let mut so_far = None;
-        while self.due(now) {
-            so_far = Some(self.step(so_far));
-        }
-        so_far
+        let (moved, taken) = self.take(now);
+        self.next = moved.next;
+        taken
     }
 }

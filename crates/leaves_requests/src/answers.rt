@@ -76,11 +76,10 @@ impl Request {
 }
 
 fn take(ladder: Ladder, now: u64) -> Step {
-    let mut moved = ladder;
-    let got = moved.take(now);
+    let (moved, got) = ladder.take(now);
     Step {
-        next_at: ladder.next_at(),
-        due: ladder.due(now),
+        next_at: ladder.next_at().1,
+        due: ladder.due(now).1,
         any: got.is_some(),
         send: got.is_some_and(|t| t.send),
         latest: got.map_or(0, |t| t.latest),

@@ -114,7 +114,7 @@ pub fn probe_due(
     };
     if c.is_own(tag) && c.pendi.probes.some {
         let mut ladder = c.pendi.probes.ladder;
-        if let Some(t) = ladder.take(time) {
+        if let Some(t) = ladder.take_lent(time) {
             return probe_taken(c, ladder, t, grace, time, current, log);
         }
     }
@@ -128,7 +128,7 @@ pub fn delayed_due(c: Cycle, tag: u64, time: u64, log: &mut Log) -> Cycle
 {
     if c.is_own(tag) && c.pendi.fin.some {
         let mut ladder = c.pendi.fin.ladder;
-        if let Some(t) = ladder.take(time) {
+        if let Some(t) = ladder.take_lent(time) {
             log.send(c.pendi.fin.msg, Message::Msg3, t.taken);
             let mut left = c;
             left.pendi.fin.ladder = ladder;
@@ -187,7 +187,7 @@ pub fn resend_due(
 {
     if c.stage() == Stage::Init && time < c.init.deadline {
         let mut ladder = c.init.ladder;
-        if let Some(t) = ladder.take(time) {
+        if let Some(t) = ladder.take_lent(time) {
             return resend_taken(c, ladder, t, holds, young, messages, log);
         }
     }

@@ -62,7 +62,7 @@ pub fn fin_due(cur: MayEpoch, tag: u64, time: u64, log: &mut Log) -> Kept
 {
     if epoch::is_tag(cur.some, cur.ep.tag, tag) && cur.ep.fin.some {
         let mut ladder = cur.ep.fin.ladder;
-        if let Some(t) = ladder.take(time) {
+        if let Some(t) = ladder.take_lent(time) {
             return fin_taken(cur, ladder, t, log);
         }
     }
@@ -95,7 +95,7 @@ pub fn elicit_due(cur: MayEpoch, tag: u64, time: u64, log: &mut Log) -> Kept
     let waits = !cur.ep.moved.some && cur.ep.elicit.some;
     if epoch::is_tag(cur.some, cur.ep.tag, tag) && waits {
         let mut ladder = cur.ep.elicit.ladder;
-        if let Some(t) = ladder.take(time) {
+        if let Some(t) = ladder.take_lent(time) {
             return elicit_taken(cur, ladder, t, tag, time, log);
         }
     }

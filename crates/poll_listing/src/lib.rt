@@ -89,7 +89,7 @@ impl<'a> Pass<'a> {
         match c.stage() {
             Stage::Idle => {}
             Stage::Init => {
-                let next = c.init.ladder.next_at();
+                let next = c.init.ladder.next_at().1;
                 let end = Item::new(c.init.deadline, Kind::Expire, 0);
                 self.offer_both(items, next, Kind::Resend, end)
             }

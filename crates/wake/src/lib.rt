@@ -23,7 +23,7 @@ use state::{Profile, State};
 pub fn may_next(m: MayLadder) -> Option<u64>
     ensures { instants (when_of result) ≡ may_instants m }
 {
-    if m.some { m.ladder.next_at() } else { None }
+    if m.some { m.ladder.next_at().1 } else { None }
 }
 
 // The next instant of a final message's ladder.
@@ -31,7 +31,7 @@ pub fn may_next(m: MayLadder) -> Option<u64>
 pub fn fin_next(f: Final) -> Option<u64>
     ensures { instants (when_of result) ≡ fin_instants f }
 {
-    if f.some { f.ladder.next_at() } else { None }
+    if f.some { f.ladder.next_at().1 } else { None }
 }
 
 // The prompt repeats' next instant, until the peer is seen to move.
@@ -66,7 +66,7 @@ fn cycle_next(c: &Cycle, pending: Option<u64>) -> Option<u64>
     ensures { (l : List ℕ) → when_of pending ≡ earliest_of l → when_of result ≡ earliest_of (cycle_with c.now l) }
 {
     match c.stage() {
-        Stage::Init => time::sooner(c.init.ladder.next_at(), Some(c.init.deadline)),
+        Stage::Init => time::sooner(c.init.ladder.next_at().1, Some(c.init.deadline)),
         Stage::PendI => pending,
         Stage::PendR => Some(c.pendr.deadline),
         Stage::Idle => None,

@@ -8,7 +8,7 @@ pub returns-in-Init : goal.returns-in-Init
 unfolding cycle_with
 returns-in-Init c = λ l e.
     rw c.in-Init.ensures.init
-    (sooner_named _ (Some c.args.c.now.init.deadline) _ (ladder_instants c.args.c.now.init.ladder) (c.args.c.now.init.deadline ∷ []) c.sooner.ensures (least_next _ _ c.next_at.ensures) (sym (earliest_one _)))
+    (sooner_named _ (Some c.args.c.now.init.deadline) _ (ladder_instants c.args.c.now.init.ladder) (c.args.c.now.init.deadline ∷ []) c.sooner.ensures (least_next _ _ c.next_at.ensures.1) (sym (earliest_one _)))
 
 pub returns-in-PendI : goal.returns-in-PendI
 unfolding cycle_with

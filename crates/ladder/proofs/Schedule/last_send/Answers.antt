@@ -1,10 +1,9 @@
-use Rattle.std.proofs.Common.{◌≡◌, ◌-◌, ◌+◌, sym, ◌∙◌, ap, map, arith}
+use Rattle.std.proofs.Common.{◌≡◌, ◌-◌, ◌+◌, sym, ◌∙◌, ap, map}
 use Rattle.std.proofs.Math.Nat.{sub-zero}
 use Rattle.time.specs.Lists.{fold, range, range-next, range-end}
 use Rattle.time.specs.Options.{when_of}
 use Rattle.time.specs.Time.{none}
-use Rattle.ladder.specs.Schedule.{max_rungs, last_of, last_send_of, rung_at, rungs_of}
-use Rattle.ladder.proofs.Rungs.{held-most}
+use Rattle.ladder.specs.Schedule.{last_of, last_send_of, rung_at, rungs_of}
 use Rattle.ladder.proofs.Schedule.last_send.Goals as goal
 use Rattle.ladder.proofs.Schedule.last_send.Goals.{then-not-silent, else-not-silent}
 

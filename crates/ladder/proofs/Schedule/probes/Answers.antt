@@ -9,10 +9,9 @@ use lib.Seq.{slice, slice-cons, slice_empty}
 use Rattle.time.specs.Lists.{fold}
 use Rattle.time.specs.Time.{at}
 use Rattle.ladder.specs.declared.Made.{Made}
-use Rattle.ladder.specs.declared.Schedule.{Schedule}
 use Rattle.time.proofs.Std.{max_most}
 use Rattle.ladder.specs.Schedule.{max_rungs, made_of, doubling_of, filled, held_of, keepalives, send}
-use Rattle.ladder.proofs.Rungs.{held-most, offsets-laid}
+use Rattle.ladder.proofs.Rungs.{offsets-laid}
 use Rattle.ladder.specs.Laws.{Fresh}
 use Rattle.ladder.proofs.Laws.{fresh-put, fresh-all, filled-step, filled-end, probes-all, plan-most, length-laid}
 use Rattle.ladder.specs.Fill.{put_of, none_yet}
