@@ -1,7 +1,7 @@
 -- What one turn of a loop over a list does to the definitions of specs/: the rest from index i on, by its first element. Assumes nothing.
-use Rattle.std.proofs.Common.{ℕ, ◌+◌, ◌-◌, ◌*◌, ◌≤◌, ◌<◌, Bool, true, false, cond, ◌≡◌, refl, List, [], ◌∷◌, add-one, le_refl, le_trans, arith, length, get_or, drop, drop_of_length-le, drop-cons, eqb, eq-eqb, ne_eqb, ltb, ltb-false, le_antisymm, ap, map, not, Some, None}
-use Rattle.std.specs.List.{prefix_len, position_or_len, position}
-use Rattle.std.specs.Option.{unwrap_or}
+use Rattle.std.proofs.Common.{ℕ, ◌+◌, ◌-◌, ◌*◌, ◌≤◌, ◌<◌, Bool, true, false, cond, ◌≡◌, refl, List, [], ◌∷◌, add-one, le_refl, le_trans, arith, length, get_or, drop, drop_of_length-le, drop-cons, eqb, eq-eqb, ne_eqb, ltb, ltb-false, le_antisymm, ap, map, not, Option, Some, None, Bor, MatchOption, IsSomeAnd}
+use Rattle.std.specs.List.{prefix_len, position_or_len, position, find}
+use Rattle.std.specs.Option.{unwrap_or, option_map, option_copied}
 use Rattle.std.proofs.lemmas.List.Sums.{prefix_len-le-length}
 use Rattle.std.proofs.lemmas.List.{length-map}
 use Rattle.text.specs.Fields.{one, behind}
@@ -21,6 +21,22 @@ prefix-map f p (x ∷ xs) = ap (λ n. cond (p (f x)) (1 + n) 0) (prefix-map f p 
 
 pub position-map : {A B : Type 0} (f : A → B) (p : B → Bool) (xs : List A) → position (λ x. p (f x)) xs ≡ position p (map f xs)
 position-map f p xs = rw (prefix-map f (λ x. not (p x)) xs, length-map xs f)
+
+-- the value of the row behind the reference that a search answers
+pub value-of : {W T : Type 0} (r : Option (Bor (W × T))) (v : Option T) → MatchOption r (v ≡ None) (λ x. IsSomeAnd v (λ y. y ≡ x.now.1)) → v ≡ option_map (λ row. row.1) (option_copied r)
+value-of None v e = e
+value-of (Some x) None e = absurd e
+value-of (Some x) (Some y) e = ap Some e
+
+-- the first element that passes, of elements that were mapped
+pub find-map : {A B T : Type 0} (f : A → B × T) (p : B × T → Bool) (xs : List A) → option_map (λ x. (f x).1) (find (λ x. p (f x)) xs) ≡ option_map (λ y. y.1) (find p (map f xs))
+find-map f p [] = refl
+find-map f p (x ∷ xs) = by (p (f x)) (find-map f p xs)
+  where
+    by : (t : Bool) → option_map (λ x. (f x).1) (find (λ x. p (f x)) xs) ≡ option_map (λ y. y.1) (find p (map f xs))
+        → option_map (λ x. (f x).1) (cond t (Some x) (find (λ x. p (f x)) xs)) ≡ option_map (λ y. y.1) (cond t (Some (f x)) (find p (map f xs)))
+    by true e = refl
+    by false e = e
 
 pub one-le : (t : Bool) → one t ≤ 1
 one-le true = omega arith

@@ -1,8 +1,8 @@
 -- A line read field by field: what each reading answers, and where the scan stands then.
 use Rattle.std.specs.Prelude.{ℕ, ℤ, Bool, false, cond, List, [], ◌∷◌, length, leb, Option, Some, None, Result, Ok, Err}
-use Rattle.std.specs.List.{position}
+use Rattle.std.specs.List.{position, find}
 use Rattle.std.specs.Str.{bytes_eq}
-use Rattle.std.specs.Option.{ok_or}
+use Rattle.std.specs.Option.{ok_or, option_map}
 use Rattle.text.specs.declared.fault.Fault.{Fault}
 use Rattle.text.specs.declared.fault.Fault.TheVariants.{Missing, Extra, NotWord}
 use Rattle.text.specs.declared.field.Field.{Field}
@@ -46,6 +46,18 @@ place_of words w = position (λ x. bytes_eq x w) words
 -- which of `words` the next field is
 abbrev pub word_at : List ℕ → ℕ → List (List ℕ) → Result ℕ Fault
 word_at line at words = in_field line (λ s. ok_or (place_of words s) NotWord) (field_at line at)
+
+-- the value of the first of `rows` whose word is w
+abbrev pub entry_of : {T : Type 0} → List (List ℕ × T) → List ℕ → Option T
+entry_of rows w = option_map (λ row. row.1) (find (λ row. bytes_eq row.0 w) rows)
+
+-- the value of the row whose word the next field is
+abbrev pub entry_in : {T : Type 0} → List (List ℕ × T) → List ℕ → Option Field → Option T
+entry_in rows line None = None
+entry_in rows line (Some f) = entry_of rows (bytes_of line f)
+
+abbrev pub entry_at : {T : Type 0} → List ℕ → ℕ → List (List ℕ × T) → Option T
+entry_at line at rows = entry_in rows line (field_at line at)
 
 abbrev pub some_of : Result ℕ Fault → Result (Option ℕ) Fault
 some_of (Ok n) = Ok (Some n)

@@ -1,6 +1,7 @@
 // A line read field by field.
 ghost use Rattle.std.specs.Prelude.{◌≡◌, map};
-ghost use Rattle.text.specs.Scans.{number_at, signed_at, optional_at, accept_at, word_at, end_at, place_after, place_where, place_of};
+ghost use Rattle.std.specs.Option.{is_some};
+ghost use Rattle.text.specs.Scans.{number_at, signed_at, optional_at, accept_at, word_at, entry_at, end_at, place_after, place_where, place_of, entry_of};
 
 use crate::fault::Fault;
 use crate::field::{Field, next_field};
@@ -97,6 +98,19 @@ impl<'a> Scan<'a> {
         Ok(place)
     }
 
+    // The value of the row of `table` whose word the next field is, with the scan moved past it; where
+    // there is none the scan stays.
+    pub fn entry<T: Copy>(&mut self, table: &[(&'static [u8], T)]) -> Option<T>
+        ensures value { result ≡ entry_at self.old.line.now self.old.at (map (λ row. (row.0.now, row.1)) table.now) }
+        ensures line { self.new.line ≡ self.old.line }
+        ensures at { self.new.at ≡ place_where self.old.line.now self.old.at (is_some result) }
+    {
+        let field = next_field(self.line, self.at)?;
+        let value = entry_of(table, &self.line[field.start..field.end])?;
+        self.at = field.next;
+        Some(value)
+    }
+
     // Whether no field is left.
     pub fn end(&self) -> Result<(), Fault>
         ensures { result ≡ end_at self.now.line.now self.now.at }
@@ -113,4 +127,11 @@ pub fn place_of(words: &[&[u8]], word: &[u8]) -> Option<usize>
     ensures { result ≡ place_of (map (λ w. w.now) words.now) word.now }
 {
     words.iter().position(|w| *w == word)
+}
+
+// The value of the first row of `table` whose word is `word`.
+fn entry_of<T: Copy>(table: &[(&'static [u8], T)], word: &[u8]) -> Option<T>
+    ensures { result ≡ entry_of (map (λ row. (row.0.now, row.1)) table.now) word.now }
+{
+    table.iter().find(|row| row.0 == word).map(|row| row.1)
 }
