@@ -12,7 +12,7 @@ pub returns-in-Init : goal.returns-in-Init
 unfolding cycle_items ladder_instants
 returns-in-Init c =
     rw c.in-Init.ensures.init
-    (both-named item_resend (ladder_instants c.args.c.now.init.ladder) c.new-end.ensures (rw c.next_at-next.ensures at c.offer_both.ensures))
+    (both-named item_resend (ladder_instants c.args.c.now.init.ladder) c.new-end.ensures (rw c.next_at-next.ensures.1 at c.offer_both.ensures))
 
 pub returns-in-PendI : goal.returns-in-PendI
 unfolding cycle_items
