@@ -158,18 +158,18 @@ impl Check {
     }
 }
 
-// Whether `x < a + b`, with no sum: it may not fit.
+// Whether `x < a + b`; a sum that does not fit is larger.
 fn below_sum(x: u64, a: u64, b: u64) -> bool
     ensures { result ≡ ltb x (a + b) }
 {
-    x < a || x - a < b
+    a.checked_add(b).map_or(true, |sum| x < sum)
 }
 
-// Whether `x <= a + b`, with no sum.
+// Whether `x <= a + b`, in the same way.
 fn upto_sum(x: u64, a: u64, b: u64) -> bool
     ensures { result ≡ leb x (a + b) }
 {
-    x < a || x - a <= b
+    a.checked_add(b).map_or(true, |sum| x <= sum)
 }
 
 // Places 1 to 5: the triggers.
