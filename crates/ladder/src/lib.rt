@@ -203,11 +203,10 @@ impl Schedule {
             dropped: d.dropped,
         };
         let mut last: u64 = 0;
-        for i in 0..n {
-            let at = sends.at[i];
-            made = made.fill(last, at, g);
-            made = made.put(at, false);
-            last = at;
+        for at in &sends.at[..n] {
+            made = made.fill(last, *at, g);
+            made = made.put(*at, false);
+            last = *at;
         }
         made.fill(last, end, g)
     }
@@ -235,6 +234,7 @@ impl Schedule {
     {
         let n = self.rungs();
         let mut found = None;
+        // By place: it names the rung's bit of the map as well as its offset.
         for i in 0..n {
             if !self.silent(i) {
                 found = Some(self.at[i]);
