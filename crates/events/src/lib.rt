@@ -248,6 +248,7 @@ impl<'a> Log<'a> {
     pub fn offered(&self, tag: u64) -> bool
         ensures { result ≡ offered_in (at self.now.len self.now.words.now) tag }
     {
+        // No `any`: its closure would need a clause for the bound of `i`.
         for i in 0..self.len.min(96) {
             if offers(place(self.words, i), tag) {
                 return true;
@@ -265,6 +266,7 @@ impl<'a> Log<'a> {
     {
         let n = self.len.min(96);
         self.len = 0;
+        // By place: what stays is put into the words that are read.
         for i in 0..n {
             let w = place(self.words, i);
             if stays(w, cur, pend) {

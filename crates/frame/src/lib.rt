@@ -1,4 +1,5 @@
-// The call of a frame: a frame from the peer that authenticated is taken, or sent back by number.
+// The call of a frame: a frame from the peer that authenticated is taken, or sent back by number. The arguments are
+// those of C's call, one each.
 #![tactic(auto)]
 
 ghost use Rattle.std.specs.Prelude.{◌≡◌};

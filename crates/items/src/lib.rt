@@ -43,7 +43,8 @@ impl Item {
         }
     }
 
-    // Whether it comes before another: by instant, then by kind, then by key.
+    // Whether it comes before another: by instant, then by kind, then by key. Written out, since a derived order would
+    // go by the order in which the fields and the kinds are declared.
     pub fn is_before(self, other: Item) -> bool
         ensures { result ≡ before (item_of self) (item_of other) }
     {
@@ -131,8 +132,8 @@ impl Items {
     }
 }
 
-// What earlier passes listed, without the instants: 120 at most. It is no generic list with `Items`, since a struct
-// of the language holds no array of a type parameter.
+// What earlier passes listed, without the instants: 120 at most. It is no generic list with `Items`: the two share
+// no more than `new` and `len`.
 #[derive(Drop)]
 pub struct Listed {
     names: [Due; MOST_LISTED],

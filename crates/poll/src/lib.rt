@@ -11,7 +11,8 @@ use events::Log;
 use settings::Config;
 use state::{Given, Profile, State};
 
-// A poll at `time`. The log takes the events; a poll that is sent back leaves it as it was.
+// A poll at `time`. The log takes the events; a poll that is sent back leaves it as it was. The arguments are those of
+// C's call, one each.
 pub fn poll(
     s: State,
     cfg: Config,

@@ -53,8 +53,8 @@ fn start(s: &State, g: Given, log: &mut Log)
     }
 }
 
-// An epoch is offered to a worker unless an earlier event of this answer did so. Its flag stands beside it, as
-// in the state that C lays out.
+// An epoch is offered to a worker unless an earlier event of this answer did so. Its flag stands beside it:
+// the current epoch and the drained one are records of two types, which C lays out.
 #[tactic(auto, unfolding(crate::specs::Logs::offer_log))]
 fn offer(some: bool, e: Epoch, workers: bool, log: &mut Log)
     ensures { Becomes (offer_log some e workers) log.old log.new }

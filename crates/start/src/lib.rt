@@ -57,7 +57,7 @@ fn aged(w: When, floor: u64, now: u64) -> bool
 }
 
 // What an own rekey goes by: the memory, the settings, and of the current epoch its start and its
-// sent count. The epoch itself is large.
+// sent count, all that the definitions take of it.
 #[derive(Clone, Copy)]
 pub struct Rekey<'a> {
     pub mem: &'a Memory,
@@ -226,7 +226,7 @@ fn may_start(s: &State) -> bool
     s.cur.some && s.cycle.stage() == Stage::Idle && !s.cur.ep.fin.some && s.mem.reachable
 }
 
-// Whether an own rekey starts at `now`, and why.
+// Whether an own rekey starts at `now`, and why. Settings and profile stand one by one, as C hands them over.
 #[tactic(auto, unfolding(crate::specs::Start::start_kind))]
 pub fn kind(s: &State, cfg: &Config, p: Profile, now: u64) -> Option<Start>
     ensures { kind_given result ≡ start_kind s.now cfg.now p now }

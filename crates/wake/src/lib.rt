@@ -122,6 +122,7 @@ pub fn exhausted(s: &State, cfg: &Config) -> bool
 
 // The wake: the least instant that a stored deadline, a ladder or a start condition names. It counts the
 // ladders of a waiting initiator under every wait, so it may come before there is anything to do.
+// Settings and profile stand one by one, as C hands them over.
 pub fn next_wake(s: &State, cfg: &Config, p: Profile) -> Option<u64>
     ensures { when_of result ≡ wake_of s.now cfg.now p }
 {
