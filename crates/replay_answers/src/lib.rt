@@ -54,8 +54,8 @@ pub fn hand(
         write_refused(out, r.number, r.place);
         return None;
     }
-    for i in 0..r.len {
-        text_events::write_event(out, &log, i);
+    for words in log.chunks(8).take(r.len) {
+        text_events::write_event(out, words);
     }
     match call {
         Call::Poll => write_count(out, r.count),
@@ -69,8 +69,8 @@ pub fn hand(
 }
 
 fn write_count(out: &mut Output<'_, '_, impl Print>, count: usize) {
-    out.bytes(b"= count ");
-    out.number(count as u64);
+    out.bytes(b"= count");
+    out.spaced(count as u64);
     out.bytes(b"\n");
 }
 
@@ -88,8 +88,8 @@ pub fn write_state(out: &mut Output<'_, '_, impl Print>, state: &State) {
 
 fn write_refused(out: &mut Output<'_, '_, impl Print>, number: u8, place: u8) {
     out.bytes(b"= refused");
-    write_number(out, number as u64);
-    write_number(out, place as u64);
+    out.spaced(u64::from(number));
+    out.spaced(u64::from(place));
     out.bytes(b"\n");
 }
 
@@ -98,7 +98,7 @@ fn write_woke(out: &mut Output<'_, '_, impl Print>, r: Woke) {
         return write_refused(out, r.number, r.place);
     }
     out.bytes(b"= wake");
-    write_optional(out, r.at.get(), b" none");
+    out.spaced_or(r.at.get(), b" none");
     out.bytes(b"\n");
 }
 
@@ -107,22 +107,9 @@ fn write_shown(out: &mut Output<'_, '_, impl Print>, r: Shown) {
         return write_refused(out, r.number, r.place);
     }
     out.bytes(b"= status");
-    write_optional(out, r.tag.get(), b" -");
-    write_number(out, r.kind as u64);
-    write_optional(out, r.wake.get(), b" -");
-    write_optional(out, r.quiet.get(), b" -");
+    out.spaced_or(r.tag.get(), b" -");
+    out.spaced(u64::from(r.kind));
+    out.spaced_or(r.wake.get(), b" -");
+    out.spaced_or(r.quiet.get(), b" -");
     out.bytes(b"\n");
-}
-
-fn write_optional(out: &mut Output<'_, '_, impl Print>, n: Option<u64>, none: &[u8]) {
-    match n {
-        Some(n) => write_number(out, n),
-        None => out.bytes(none),
-    }
-}
-
-// ` ` and a number.
-fn write_number(out: &mut Output<'_, '_, impl Print>, n: u64) {
-    out.bytes(b" ");
-    out.number(n);
 }

@@ -78,26 +78,25 @@ fn hand(
         refused(out, head, r.number, r.place);
         return None;
     }
-    for i in 0..r.len {
-        write_event(out, head, &log, i);
+    for words in log.chunks(8).take(r.len) {
+        write_event(out, head, words);
     }
     Some(r.state)
 }
 
-fn write_event(out: &mut Output<'_, '_, impl Print>, head: Head, log: &[u64; 768], i: usize) {
+fn write_event(out: &mut Output<'_, '_, impl Print>, head: Head, words: &[u64]) {
     begin(out, head, b" ");
-    text_events::write_explained(out, log, i, head.explain);
+    text_events::write_explained(out, words, head.explain);
     out.bytes(b"\n");
 }
 
 // The number of a refusal and the place of its check.
 fn refused(out: &mut Output<'_, '_, impl Print>, head: Head, number: u8, place: u8) {
-    begin(out, head, b" refused ");
-    out.number(number as u64);
-    out.bytes(b" ");
-    out.number(place as u64);
+    begin(out, head, b" refused");
+    out.spaced(u64::from(number));
+    out.spaced(u64::from(place));
     if head.explain {
-        text_events::write_refused(out, number as u64, place as u64);
+        text_events::write_refused(out, u64::from(number), u64::from(place));
     }
     out.bytes(b"\n");
 }
@@ -106,8 +105,8 @@ fn write_wake(out: &mut Output<'_, '_, impl Print>, head: Head, r: Woke) {
     if r.number != 0 {
         return refused(out, head, r.number, r.place);
     }
-    begin(out, head, b" wake ");
-    write_time(out, r.at.get());
+    begin(out, head, b" wake");
+    out.spaced_or(r.at.get(), b" none");
     out.bytes(b" 0\n");
 }
 
@@ -117,33 +116,25 @@ fn write_status(out: &mut Output<'_, '_, impl Print>, head: Head, r: Shown) {
         return refused(out, head, r.number, r.place);
     }
     let wake = r.wake.get();
-    begin(out, head, b" status tag ");
-    write_time(out, r.tag.get());
+    begin(out, head, b" status tag");
+    out.spaced_or(r.tag.get(), b" none");
     out.bytes(b" cycle ");
-    text_events::write_name(out, List::Cycles, r.kind as u64);
-    out.bytes(b" wake ");
-    write_time(out, wake);
-    out.bytes(b" quiet ");
-    write_time(out, r.quiet.get());
+    text_events::write_name(out, List::Cycles, u64::from(r.kind));
+    out.bytes(b" wake");
+    out.spaced_or(wake, b" none");
+    out.bytes(b" quiet");
+    out.spaced_or(r.quiet.get(), b" none");
     if head.explain {
         let passed = wake.is_some_and(|t| t <= head.time);
-        text_events::write_cycle(out, r.kind as u64, passed);
+        text_events::write_cycle(out, u64::from(r.kind), passed);
     }
     out.bytes(b"\n");
-}
-
-fn write_time(out: &mut Output<'_, '_, impl Print>, t: Option<u64>) {
-    match t {
-        Some(t) => out.number(t),
-        None => out.bytes(b"none"),
-    }
 }
 
 // The first two columns, and what stands behind them.
 fn begin(out: &mut Output<'_, '_, impl Print>, head: Head, behind: &[u8]) {
     out.number(head.call);
-    out.bytes(b" ");
-    out.number(head.time);
+    out.spaced(head.time);
     out.bytes(behind);
 }
 

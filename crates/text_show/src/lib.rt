@@ -48,9 +48,9 @@ impl<R: Print> Writer<'_, '_, '_, R> {
             Slot::Count(n) => self.number(*n as u64),
             Slot::Flag(on) => self.number(u64::from(*on)),
             Slot::Signed(n) => self.signed(*n),
-            Slot::Bit(b) => self.optional(b.some, u64::from(b.on)),
-            Slot::When(w) => self.optional(w.some, w.at),
-            Slot::Index(x) => self.optional(x.some, u64::from(x.index)),
+            Slot::Bit(b) => self.optional(b.some.then_some(u64::from(b.on))),
+            Slot::When(w) => self.optional(w.get()),
+            Slot::Index(x) => self.optional(x.some.then_some(u64::from(x.index))),
             Slot::Ladder(l) => self.ladder(*l),
             Slot::MayLadder(l) => self.may_ladder(*l),
             Slot::Final(f) => self.fin(*f),
@@ -70,16 +70,11 @@ impl<R: Print> Writer<'_, '_, '_, R> {
     }
 
     fn number(&mut self, n: u64) {
-        self.out.bytes(b" ");
-        self.out.number(n);
+        self.out.spaced(n);
     }
 
-    fn optional(&mut self, some: bool, n: u64) {
-        if some {
-            self.number(n);
-        } else {
-            self.out.bytes(b" -");
-        }
+    fn optional(&mut self, n: Option<u64>) {
+        self.out.spaced_or(n, b" -");
     }
 
     fn signed(&mut self, n: i32) {
@@ -127,10 +122,5 @@ impl<R: Print> Writer<'_, '_, '_, R> {
 
 // The word for a kind of the cycle; any other number counts as idle.
 fn kind_word(kind: u8) -> &'static [u8] {
-    let place = kind as usize;
-    if place < KINDS.len() {
-        KINDS[place]
-    } else {
-        b"idle"
-    }
+    KINDS.get(usize::from(kind)).copied().unwrap_or(b"idle")
 }
