@@ -2,9 +2,15 @@
 // middle of a link's life. No function has a `requires`.
 #![tactic(auto)]
 
+ghost use Rattle.std.specs.Prelude.{◌≡◌};
+ghost use Rattle.numbers.specs.Cases.{wait_no};
+ghost use Rattle.time.specs.Time.{later_of, sat_add};
+ghost use Rattle.state.specs.Parts.{put_cycle, put_drain, put_cands};
+ghost use Rattle.runs_placing.specs.Placed.{completed, answered, kept, kept_until, added};
+
 use candidates::Candidates;
-use cycle::{PendI, PendR};
-use epoch::{Drain, Epoch, Final, Ids, Index, MayLadder};
+use cycle::{Cycle, PendI, PendR};
+use epoch::{Drain, Epoch, Final, Ids, MayLadder};
 use ladder::{Ladder, Schedule};
 use numbers::cycle::Stage;
 use numbers::wait::Wait;
@@ -13,39 +19,32 @@ use state::State;
 use text_calls::Link;
 use time::When;
 
-const EMPTY: Ladder = Ladder {
-    origin: 0,
-    sched: Schedule::EMPTY,
-    next: 0,
-};
-
-const NO_MESSAGE: Final = Final {
-    some: false,
-    msg: 0,
-    ladder: EMPTY,
-};
-
-const NO_LADDER: MayLadder = MayLadder {
-    some: false,
-    ladder: EMPTY,
-};
-
 // An own attempt that completed at `now`, under a wait.
-pub fn pendi(link: &Link, now: u64, wait: Wait) -> State {
-    let mut next = link.state;
-    next.cycle.kind = Stage::PendI.number();
-    next.cycle.pendi = PendI {
+#[tactic(auto, unfolding(crate::specs::Placed::completed))]
+pub fn pendi(link: &Link, now: u64, wait: Wait) -> State
+    ensures placed { result ≡ put_cycle link.now.state (completed link.now.state.cycle result.cycle.pendi) }
+    ensures wait { result.cycle.pendi.wait ≡ wait_no wait }
+    ensures tag { result.cycle.pendi.ep.tag ≡ sat_add link.now.state.cur.ep.tag 1 }
+    ensures started { result.cycle.pendi.ep.started ≡ now }
+{
+    let pendi = PendI {
         ep: own_epoch(&link.state, now, wait),
         wait: wait.number(),
         deadline: wait_end(link, now, wait),
-        restart: false,
         fin: final_message(link, now, wait),
         probes: probes(&link.cfg, now, wait),
         probed: by_evidence(wait, now),
-        stayed: false,
-        reverted: false,
+        ..PendI::BLANK
     };
-    next
+    let cycle = Cycle {
+        kind: Stage::PendI.number(),
+        pendi,
+        ..link.state.cycle
+    };
+    State {
+        cycle,
+        ..link.state
+    }
 }
 
 // A time that only an epoch has which waits for evidence.
@@ -54,13 +53,17 @@ fn by_evidence(wait: Wait, at: u64) -> When {
 }
 
 // The epoch that an own attempt completed: the key bit is the other one than the peer's.
-fn own_epoch(state: &State, now: u64, wait: Wait) -> Epoch {
+fn own_epoch(state: &State, now: u64, wait: Wait) -> Epoch
+    ensures tag { result.tag ≡ sat_add state.now.cur.ep.tag 1 }
+    ensures started { result.started ≡ now }
+{
     let peer = state.mem.peer_k;
-    let mut own = fresh(state, now);
-    own.k = if peer.some { !peer.on } else { !state.cur.ep.k };
-    own.base = by_evidence(wait, now);
-    own.route = by_evidence(wait, 0);
-    own
+    Epoch {
+        k: if peer.some { !peer.on } else { !state.cur.ep.k },
+        base: by_evidence(wait, now),
+        route: by_evidence(wait, 0),
+        ..fresh(state, now)
+    }
 }
 
 // When the wait ends: at once, with the confirmation window, or after the delay.
@@ -96,37 +99,59 @@ fn probes(cfg: &Config, now: u64, wait: Wait) -> MayLadder {
 }
 
 // A peer's attempt that was answered at `now`. With two messages the answer is held, to be sent again.
-pub fn pendr(link: &Link, now: u64) -> State {
-    let mut ep = fresh(&link.state, now);
-    ep.responder = true;
-    let mut next = link.state;
-    next.cycle.kind = Stage::PendR.number();
-    next.cycle.pendr = PendR {
+#[tactic(auto, unfolding(crate::specs::Placed::answered))]
+pub fn pendr(link: &Link, now: u64) -> State
+    ensures placed { result ≡ put_cycle link.now.state (answered link.now.state.cycle result.cycle.pendr) }
+    ensures deadline { result.cycle.pendr.deadline ≡ later_of now link.now.cfg.hold }
+    ensures tag { result.cycle.pendr.ep.tag ≡ sat_add link.now.state.cur.ep.tag 1 }
+    ensures started { result.cycle.pendr.ep.started ≡ now }
+{
+    let ep = Epoch {
+        responder: true,
+        ..fresh(&link.state, now)
+    };
+    let pendr = PendR {
         ep,
         deadline: time::later(now, link.cfg.hold),
         restart: false,
         answer: (link.profile.messages == 2).then_some(0).into(),
     };
-    next
+    let cycle = Cycle {
+        kind: Stage::PendR.number(),
+        pendr,
+        ..link.state.cycle
+    };
+    State {
+        cycle,
+        ..link.state
+    }
 }
 
 // The epoch before the current one, from which the link cut over at `now`. A cutover drops what the old
 // epoch would have sent again.
-pub fn drained(link: &Link, now: u64, evidenced: bool) -> State {
+#[tactic(auto, unfolding(crate::specs::Placed::kept, crate::specs::Placed::kept_until))]
+pub fn drained(link: &Link, now: u64, evidenced: bool) -> State
+    ensures placed { result ≡ put_drain link.now.state (kept result.drain.ep (kept_until link.now.cfg now evidenced) evidenced) }
+{
     let cfg = &link.cfg;
-    let mut ep = link.state.cur.ep;
-    ep.tag = before(ep.tag);
-    ep.k = !ep.k;
-    ep.fin = NO_MESSAGE;
-    ep.elicit = NO_LADDER;
-    let mut next = link.state;
-    next.drain = Drain {
+    let cur = &link.state.cur.ep;
+    let ep = Epoch {
+        tag: before(cur.tag),
+        k: !cur.k,
+        fin: Final::NONE,
+        elicit: MayLadder::NONE,
+        ..*cur
+    };
+    let drain = Drain {
         some: true,
         ep,
         deadline: time::later(now, if evidenced { cfg.drain } else { cfg.retention }),
         evidenced,
     };
-    next
+    State {
+        drain,
+        ..link.state
+    }
 }
 
 // A tag that is not the current one.
@@ -135,42 +160,37 @@ fn before(tag: u64) -> u64 {
 }
 
 // An epoch that a handshake made at `now`, on the current one's transport.
-fn fresh(state: &State, now: u64) -> Epoch {
+#[tactic(auto, using(time::proofs::Std::add_stops))]
+fn fresh(state: &State, now: u64) -> Epoch
+    ensures tag { result.tag ≡ sat_add state.now.cur.ep.tag 1 }
+    ensures started { result.started ≡ now }
+{
     let ep = &state.cur.ep;
+    let ids = Ids {
+        transport: ep.ids.transport,
+        ..Ids::NONE
+    };
     Epoch {
         tag: ep.tag.saturating_add(1),
-        session: 0,
-        sent: 0,
-        ids: Ids {
-            lease: Index::NONE,
-            theirs: Index::NONE,
-            transport: ep.ids.transport,
-        },
-        k: false,
-        responder: false,
-        base: When::NONE,
+        ids,
         started: now,
-        route: When::NONE,
-        ext: 0,
-        delegated: false,
-        floor: When::NONE,
-        heard: When::NONE,
-        moved: When::NONE,
-        assumed: false,
-        fin: NO_MESSAGE,
-        elicit: NO_LADDER,
-        prompted: When::NONE,
+        ..Epoch::BLANK
     }
 }
 
 // One more candidate, whose setup message came at `now`. Where 32 are held nothing is added.
-pub fn candidate(link: &Link, now: u64) -> State {
+pub fn candidate(link: &Link, now: u64) -> State
+    ensures placed { result ≡ put_cands link.now.state (added link.now.state.cands now (later_of now link.now.cfg.ttl)) }
+{
     let mut next = link.state;
     add(&mut next.cands, now, time::later(now, link.cfg.ttl));
     next
 }
 
-fn add(c: &mut Candidates, now: u64, deadline: u64) {
+#[tactic(auto, using(time::proofs::Std::add_stops), unfolding(crate::specs::Placed::added))]
+fn add(c: &mut Candidates, now: u64, deadline: u64)
+    ensures { c.new ≡ added c.old now deadline }
+{
     let n = c.len;
     if n < 32 {
         c.hs[n] = 0;
