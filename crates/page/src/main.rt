@@ -5,7 +5,7 @@
 
 mod rows;
 
-use rows::{LONGEST, NO_ROW, Row};
+use rows::{Row, Wanted};
 use std::io::Read;
 use text_lines::{Input, Output};
 
@@ -46,10 +46,9 @@ fn is_row(line: &[u8]) -> bool {
 }
 
 fn respond(out: &mut Output<'_, '_, impl Print>, page: &mut Page, line: &[u8], number: u64) {
-    let mut wanted = [0u8; LONGEST];
-    let n = put_next(page.next, &mut wanted).min(LONGEST);
+    let wanted = Wanted::new(page.next);
     match page.next {
-        Some(row) if line.starts_with(&wanted[..n]) => {
+        Some(row) if wanted.begins(line) => {
             page.next = row.next();
             page.count = page.count.saturating_add(1);
         }
@@ -61,14 +60,9 @@ fn respond(out: &mut Output<'_, '_, impl Print>, page: &mut Page, line: &[u8], n
     }
 }
 
-// Puts what the next row begins with, and answers how long that is.
-fn put_next(next: Option<Row>, to: &mut [u8; LONGEST]) -> usize {
-    next.and_then(|row| row.head()).unwrap_or(NO_ROW).put(to)
-}
-
-fn tell_wanted(out: &mut Output<'_, '_, impl Print>, wanted: &[u8]) {
+fn tell_wanted(out: &mut Output<'_, '_, impl Print>, wanted: &Wanted) {
     out.bytes(b": wanted is ");
-    out.bytes(wanted);
+    out.bytes(&wanted.bytes);
     out.bytes(b"\n");
 }
 
@@ -76,9 +70,7 @@ fn end(out: &mut Output<'_, '_, impl Print>, page: Page) {
     out.number(page.count);
     out.bytes(b" rows agree\n");
     if page.next.is_some() {
-        let mut wanted = [0u8; LONGEST];
-        put_next(page.next, &mut wanted);
-        tell_wanted(out, &wanted);
+        tell_wanted(out, &Wanted::new(page.next));
     }
     out.flush();
 }

@@ -3,12 +3,11 @@
 use settings::Config;
 use text::Fault;
 use text_form::{Fields, Slot};
-use text_lines::{put, put_number};
 use text_lists::{Entry, Event, List, UNKNOWN};
 use text_records::Record;
 
 // No row begins with more.
-pub const LONGEST: usize = 256;
+const LONGEST: usize = 256;
 
 // What has a table on the page.
 #[derive(Clone, Copy)]
@@ -41,14 +40,14 @@ static TABLES: [Table; 16] = [
 
 // A row: the place of its table, and its number there.
 #[derive(Clone, Copy)]
-pub struct Row {
+pub(crate) struct Row {
     table: usize,
     number: u64,
 }
 
 // What a row begins with.
 #[derive(Clone, Copy)]
-pub enum Head {
+enum Head {
     // A number, a name and its words.
     Entry(u64, Entry),
     // A name and its default.
@@ -56,16 +55,16 @@ pub enum Head {
 }
 
 // What a row wants where no more is wanted.
-pub const NO_ROW: Head = Head::Entry(0, UNKNOWN);
+const NO_ROW: Head = Head::Entry(0, UNKNOWN);
 
 impl Row {
-    pub const FIRST: Row = Row {
+    pub(crate) const FIRST: Row = Row {
         table: 0,
         number: 0,
     };
 
     // The row behind this one: the next number, or the first of the next table.
-    pub fn next(self) -> Option<Row> {
+    pub(crate) fn next(self) -> Option<Row> {
         let after = Row {
             table: self.table,
             number: self.number.saturating_add(1),
@@ -82,7 +81,7 @@ impl Row {
     }
 
     // What it begins with, if there is such a row.
-    pub fn head(self) -> Option<Head> {
+    fn head(self) -> Option<Head> {
         let n = self.number;
         match TABLES.get(self.table)? {
             Table::Events => Some(Head::Entry(n, Event::get(n)?.entry)),
@@ -121,9 +120,9 @@ impl Fields for Finder {
 fn value(slot: Slot<'_>) -> u64 {
     match slot {
         Slot::Number(n) => *n,
-        Slot::Byte(n, _) => *n as u64,
-        Slot::Half(n) => *n as u64,
-        Slot::Flag(on) => *on as u64,
+        Slot::Byte(n, _) => u64::from(*n),
+        Slot::Half(n) => u64::from(*n),
+        Slot::Flag(on) => u64::from(*on),
         _ => 0,
     }
 }
@@ -136,31 +135,63 @@ fn default_of(record: &mut impl Record, n: u64) -> Option<Head> {
 }
 
 impl Head {
-    // Puts it to the front of `to`, and answers how long it is.
-    pub fn put(self, to: &mut [u8]) -> usize {
+    fn put(self, to: &mut Wanted) {
         match self {
-            Head::Entry(number, entry) => put_entry(number, entry, to),
-            Head::Default(name, value) => put_default(name, value, to),
+            Head::Entry(number, entry) => to.entry(number, entry),
+            Head::Default(name, value) => to.default(name, value),
         }
     }
 }
 
-// `| number | `name` | words | `
-fn put_entry(number: u64, entry: Entry, to: &mut [u8]) -> usize {
-    let bar = put(to, 0, b"| ");
-    let numbered = put_number(to, bar, number);
-    let open = put(to, numbered, b" | `");
-    let named = put(to, open, entry.name);
-    let closed = put(to, named, b"` | ");
-    let worded = put(to, closed, entry.words);
-    put(to, worded, b" | ")
+// What a row begins with, as bytes: the first `len` of them, with zeros behind.
+#[derive(Clone, Copy)]
+pub(crate) struct Wanted {
+    // Fixed memory: the longest fits.
+    pub(crate) bytes: [u8; LONGEST],
+    len: usize,
 }
 
-// `| `name` | default | `
-fn put_default(name: &[u8], value: u64, to: &mut [u8]) -> usize {
-    let open = put(to, 0, b"| `");
-    let named = put(to, open, name);
-    let closed = put(to, named, b"` | ");
-    let valued = put_number(to, closed, value);
-    put(to, valued, b" | ")
+impl Wanted {
+    // Of a row, or of none.
+    pub(crate) fn new(row: Option<Row>) -> Wanted {
+        let mut wanted = Wanted {
+            bytes: [0; LONGEST],
+            len: 0,
+        };
+        row.and_then(Row::head).unwrap_or(NO_ROW).put(&mut wanted);
+        wanted
+    }
+
+    // Whether a line begins so.
+    pub(crate) fn begins(&self, line: &[u8]) -> bool {
+        line.starts_with(&self.bytes[..self.len.min(LONGEST)])
+    }
+
+    // `| number | `name` | words | `
+    fn entry(&mut self, number: u64, entry: Entry) {
+        self.put(b"| ");
+        self.number(number);
+        self.put(b" | `");
+        self.put(entry.name);
+        self.put(b"` | ");
+        self.put(entry.words);
+        self.put(b" | ");
+    }
+
+    // `| `name` | default | `
+    fn default(&mut self, name: &[u8], value: u64) {
+        self.put(b"| `");
+        self.put(name);
+        self.put(b"` | ");
+        self.number(value);
+        self.put(b" | ");
+    }
+
+    fn put(&mut self, words: &[u8]) {
+        self.len = text_lines::put(&mut self.bytes, self.len, words);
+    }
+
+    fn number(&mut self, n: u64) {
+        self.len = text_lines::put_number(&mut self.bytes, self.len, n);
+    }
 }
