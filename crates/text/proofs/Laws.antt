@@ -1,10 +1,9 @@
 -- What one turn of a loop over a list does to the definitions of specs/: the rest from index i on, by its first element. Assumes nothing.
-use Rattle.std.proofs.Common.{ℕ, ◌+◌, ◌-◌, ◌*◌, ◌≤◌, ◌<◌, Bool, true, false, cond, ◌≡◌, refl, List, [], ◌∷◌, add-one, le_refl, le_trans, arith, length, get_or, drop, drop_of_length-le, drop-cons, eqb, eq-eqb, ne_eqb, ltb, ltb-false, le_antisymm, ap, map, not, Option, Some, None, Bor, MatchOption, IsSomeAnd}
+use Rattle.std.proofs.Common.{ℕ, ◌+◌, ◌-◌, ◌*◌, ◌≤◌, ◌<◌, Bool, true, false, cond, ◌≡◌, refl, List, [], ◌∷◌, add-one, le_refl, le_trans, arith, length, get_or, drop, drop_of_length-le, drop-cons, ltb, ltb-false, le_antisymm, ap, map, not, Option, Some, None, Bor, MatchOption, IsSomeAnd}
 use Rattle.std.specs.List.{prefix_len, position_or_len, position, find}
 use Rattle.std.specs.Option.{unwrap_or, option_map, option_copied}
 use Rattle.std.proofs.lemmas.List.Sums.{prefix_len-le-length}
 use Rattle.std.proofs.lemmas.List.{length-map}
-use Rattle.text.specs.Fields.{one, behind}
 use Rattle.text.specs.Numbers.{value_from}
 
 -- where the first element stands that passes, or the end
@@ -38,10 +37,6 @@ find-map f p (x ∷ xs) = by (p (f x)) (find-map f p xs)
     by true e = refl
     by false e = e
 
-pub one-le : (t : Bool) → one t ≤ 1
-one-le true = omega arith
-one-le false = omega arith
-
 -- more digits make no smaller number
 value-le : (v : ℕ) (s : List ℕ) → v ≤ value_from v s
 unfolding value_from
@@ -49,18 +44,6 @@ value-le v [] = le_refl v
 value-le v (b ∷ bs) = le_trans (omega arith) (value-le (10 * v + (b - 48)) bs)
 
 module _ (s : List ℕ) (i : ℕ) where
-  pub behind-step : (b n : ℕ) → (n ≡ 0 → ⊥) → i < length s → i + behind b n (drop i s) ≡ i + 1 + behind b (n - one (eqb (get_or s i 0) b)) (drop (i + 1) s)
-  unfolding behind
-  behind-step b n p h = rw (drop-cons s i 0 h, ne_eqb n 0 p, add-one i) (omega arith)
-
-  pub behind-none : (b n : ℕ) → n ≡ 0 → i < length s → i + behind b n (drop i s) ≡ i
-  unfolding behind
-  behind-none b n e h = rw (drop-cons s i 0 h, eq-eqb n 0 e) (omega arith)
-
-  pub behind-done : (b n : ℕ) → length s ≤ i → i + behind b n (drop i s) ≡ i
-  unfolding behind
-  behind-done b n h = rw (drop_of_length-le s {i = i} h) (omega arith)
-
   pub value-step : (v : ℕ) → i < length s → value_from v (drop i s) ≡ value_from (10 * v + (get_or s i 0 - 48)) (drop (i + 1) s)
   unfolding value_from
   value-step v h = rw (add-one, drop-cons s i 0)
@@ -74,6 +57,4 @@ module _ (s : List ℕ) (i : ℕ) where
   value-more v h = rw (value-step v h) (value-le (10 * v + (get_or s i 0 - 48)) (drop (i + 1) s))
 
 -- what the loops of each file cite
-pub ruleset behind_laws = (behind-step, behind-none, behind-done, one-le)
-
 pub ruleset value_laws = (value-step, value-more, value-done)

@@ -1,5 +1,5 @@
 -- Where the fields of a line begin and end. A line is the list of its bytes; a space is 32.
-use Rattle.std.specs.Prelude.{ℕ, ◌+◌, ◌-◌, ◌≤◌, Bool, cond, ◌≡◌, List, [], ◌∷◌, length, take, drop, leb, ltb, eqb, Option, Some, None, ◌==◌}
+use Rattle.std.specs.Prelude.{ℕ, ◌+◌, ◌-◌, ◌≤◌, Bool, cond, ◌≡◌, List, [], length, take, drop, leb, ltb, Option, Some, None, ◌==◌}
 use Rattle.std.specs.List.{count_by}
 use Rattle.text.specs.Bytes.{index_of}
 use Rattle.text.specs.declared.field.Field.{Field}
@@ -44,8 +44,3 @@ one t = cond t 1 0
 -- the number of the field at `at`: one more than the spaces before it, and one more again where the end of the line is before it
 abbrev pub ordinal_of : List ℕ → ℕ → ℕ
 ordinal_of line at = 1 + count_by (λ b. b == 32) (take at line) + one (ltb (length line) at)
-
--- the index behind the nth b, from 1
-unfoldable pub behind : ℕ → ℕ → List ℕ → ℕ
-behind b n [] = 0
-behind b n (x ∷ xs) = cond (eqb n 0) 0 (1 + behind b (n - one (eqb x b)) xs)

@@ -1,7 +1,7 @@
 // Where the fields of a line begin and end.
 ghost use Rattle.std.specs.Prelude.{◌≡◌, ◌+◌, ◌≤◌, length, drop, IfSome};
 ghost use Rattle.text.specs.Bytes.{index_of};
-ghost use Rattle.text.specs.Fields.{Within, field_at, bytes_at, ordinal_of, behind as behind_of};
+ghost use Rattle.text.specs.Fields.{Within, field_at, bytes_at, ordinal_of};
 
 // A field lies from `start` to `end`; `next` is where the field after it starts.
 #[derive(Clone, Copy)]
@@ -67,22 +67,4 @@ pub fn ordinal(line: &[u8], at: usize) -> usize
     let before = &line[..at.min(line.len())];
     let spaces = before.iter().filter(|b| **b == b' ').count();
     1 + spaces + usize::from(line.len() < at)
-}
-
-// The index behind the byte `b` of `s` that is the `n`th, from 1; 0 for the byte 0, and the end of
-// `s` where there are fewer.
-#[tactic(auto, using(crate::proofs::Laws::behind_laws), unfolding(crate::specs::Fields::behind))]
-pub fn behind(s: &[u8], b: u8, n: usize) -> usize
-    ensures { result ≡ behind_of b n s.now }
-{
-    let mut left = n;
-    for i in 0..s.len() {
-        if left == 0 {
-            return i;
-        }
-        if s[i] == b {
-            left -= 1;
-        }
-    }
-    s.len()
 }

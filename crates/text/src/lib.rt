@@ -9,7 +9,5 @@ mod scan;
 mod signed;
 
 pub use fault::Fault;
-pub use field::{Field, behind, field_bytes, find, next_field, ordinal};
-pub use number::parse;
-pub use scan::{Scan, place_of};
-pub use signed::parse_signed;
+pub use field::{Field, field_bytes, find, next_field, ordinal};
+pub use scan::Scan;

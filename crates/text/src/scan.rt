@@ -1,6 +1,9 @@
 // A line read field by field.
-ghost use Rattle.std.specs.Prelude.{◌≡◌, map};
+ghost use Rattle.std.specs.Prelude.{◌≡◌, map, IfOk, IfErr};
 ghost use Rattle.std.specs.Option.{is_some};
+ghost use Rattle.std.specs.Result.{result_ok};
+ghost use Rattle.text.specs.Fields.{Within, field_at};
+ghost use Rattle.text.specs.declared.fault.Fault.TheVariants.{Missing};
 ghost use Rattle.text.specs.Scans.{number_at, signed_at, optional_at, accept_at, word_at, entry_at, end_at, place_after, place_where, place_of, entry_of};
 
 use crate::fault::Fault;
@@ -15,8 +18,8 @@ pub struct Scan<'a> {
     pub at: usize,
 }
 
-// `number`, `signed` and `word` differ in what reads the field; one function for the three would take
-// that as a closure with clauses of its own, which is longer than what they share.
+// `number`, `signed`, `word` and `entry` differ in what reads the field; one function for them would take
+// that as a closure with clauses of its own, which is longer than the two lines that they share.
 impl<'a> Scan<'a> {
     pub fn new(line: &'a [u8]) -> Scan<'a>
         ensures line { result.line ≡ line.entry }
@@ -25,15 +28,22 @@ impl<'a> Scan<'a> {
         Scan { line, at: 0 }
     }
 
+    // The next field.
+    fn field(&self) -> Result<Field, Fault>
+        ensures value { result_ok result ≡ field_at self.now.line.now self.now.at }
+        ensures missing { IfErr result (λ fault. fault ≡ Missing) }
+        ensures within { IfOk result (Within self.now.line.now self.now.at) }
+    {
+        next_field(self.line, self.at).ok_or(Fault::Missing)
+    }
+
     // Reads a number from 0 to `most`.
     pub fn number(&mut self, most: u64) -> Result<u64, Fault>
         ensures value { result ≡ number_at self.old.line.now self.old.at most }
         ensures line { self.new.line ≡ self.old.line }
         ensures at { self.new.at ≡ place_after self.old.line.now self.old.at result }
     {
-        let Some(field) = next_field(self.line, self.at) else {
-            return Err(Fault::Missing);
-        };
+        let field = self.field()?;
         let n = parse(&self.line[field.start..field.end], most)?;
         self.at = field.next;
         Ok(n)
@@ -45,9 +55,7 @@ impl<'a> Scan<'a> {
         ensures line { self.new.line ≡ self.old.line }
         ensures at { self.new.at ≡ place_after self.old.line.now self.old.at result }
     {
-        let Some(field) = next_field(self.line, self.at) else {
-            return Err(Fault::Missing);
-        };
+        let field = self.field()?;
         let n = parse_signed(&self.line[field.start..field.end])?;
         self.at = field.next;
         Ok(n)
@@ -72,7 +80,7 @@ impl<'a> Scan<'a> {
         ensures line { self.new.line ≡ self.old.line }
         ensures at { self.new.at ≡ place_where self.old.line.now self.old.at result }
     {
-        let Some(field) = next_field(self.line, self.at) else {
+        let Ok(field) = self.field() else {
             return false;
         };
         let found = &self.line[field.start..field.end] == word;
@@ -88,9 +96,7 @@ impl<'a> Scan<'a> {
         ensures line { self.new.line ≡ self.old.line }
         ensures at { self.new.at ≡ place_after self.old.line.now self.old.at result }
     {
-        let Some(field) = next_field(self.line, self.at) else {
-            return Err(Fault::Missing);
-        };
+        let field = self.field()?;
         let Some(place) = place_of(words, &self.line[field.start..field.end]) else {
             return Err(Fault::NotWord);
         };
@@ -105,7 +111,7 @@ impl<'a> Scan<'a> {
         ensures line { self.new.line ≡ self.old.line }
         ensures at { self.new.at ≡ place_where self.old.line.now self.old.at (is_some result) }
     {
-        let field = next_field(self.line, self.at)?;
+        let field = self.field().ok()?;
         let value = entry_of(table, &self.line[field.start..field.end])?;
         self.at = field.next;
         Some(value)
@@ -123,7 +129,7 @@ impl<'a> Scan<'a> {
 }
 
 // The place of `word` among `words`.
-pub fn place_of(words: &[&[u8]], word: &[u8]) -> Option<usize>
+pub(crate) fn place_of(words: &[&[u8]], word: &[u8]) -> Option<usize>
     ensures { result ≡ place_of (map (λ w. w.now) words.now) word.now }
 {
     words.iter().position(|w| *w == word)
