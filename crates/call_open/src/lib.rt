@@ -1,4 +1,4 @@
-// `open`: a fresh link at its instant (`install` of machine.rs).
+// `open`: a fresh link at its instant (`install` of machine.rs). The arguments are those of C's call, one each.
 #![tactic(auto)]
 
 ghost use Rattle.std.specs.Prelude.{◌≡◌};

@@ -1,4 +1,5 @@
-// What is read of a link: its wake (`next_wake` of machine.rs) and the link line.
+// What is read of a link: its wake (`next_wake` of machine.rs) and the link line. The arguments of both are those of C's
+// calls, one each.
 #![tactic(auto)]
 
 ghost use Rattle.std.specs.Prelude.{◌≡◌};

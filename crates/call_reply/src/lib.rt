@@ -1,5 +1,6 @@
 // The call of a start reply: the caller says whether the start that was called for opened an attempt
-// (`Rekey::start` of machine.rs, with the silence count of its `poll`).
+// (`Rekey::start` of machine.rs, with the silence count of its `poll`). Settings and profile stand one by one, as C hands
+// them over.
 #![tactic(auto)]
 
 ghost use Rattle.std.specs.Prelude.{◌≡◌, []};

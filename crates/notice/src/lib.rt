@@ -1,5 +1,6 @@
 // The five notices as calls: what a decrypt worker and the path tell is taken, or sent back by number.
-// Each takes what a poll takes except the extra; the spread is tested and not used.
+// Each takes what a poll takes except the extra; the spread is tested and not used. The arguments are those of
+// C's calls, one each.
 // The calls are alike in the lines that send back and finish. One function that takes the row as a closure
 // would need a clause on what the closure tells, and each call would be no shorter. The round trip comes
 // from C, so it stays a record.
