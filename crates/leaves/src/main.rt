@@ -25,7 +25,7 @@ fn filter(rt: &(impl Print + Eprint), from: &mut impl Read, buf: &mut [u8], room
             Ok(true) => {}
             Ok(false) => return text_lines::finish(&mut out, number),
             Err(unread) => {
-                text_lines::tell_unread(rt, number, unread);
+                text_lines::tell(rt, number, unread);
                 return text_lines::finish(&mut out, number);
             }
         }

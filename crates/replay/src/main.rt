@@ -65,7 +65,7 @@ fn filter(
                 return text_lines::finish(&mut out, number);
             }
             Err(unread) => {
-                text_lines::tell_unread(rt, number, unread);
+                text_lines::tell(rt, number, unread);
                 return text_lines::finish(&mut out, number);
             }
         }

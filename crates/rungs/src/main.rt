@@ -45,7 +45,7 @@ fn run(rt: &impl Eprint, input: &mut Input<'_, impl Read>, out: &mut Output<'_, 
             }
         }
         Ok(false) => text_lines::tell(rt, 1, "there is no line."),
-        Err(unread) => text_lines::tell_unread(rt, 1, unread),
+        Err(unread) => text_lines::tell(rt, 1, unread),
     }
 }
 
@@ -108,7 +108,7 @@ fn ends(rt: &impl Eprint, input: &mut Input<'_, impl Read>) -> bool {
             }
             Ok(false) => return true,
             Err(unread) => {
-                text_lines::tell_unread(rt, number, unread);
+                text_lines::tell(rt, number, unread);
                 return false;
             }
         }

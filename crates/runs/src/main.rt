@@ -72,7 +72,7 @@ fn filter(rt: &(impl Print + Eprint), from: &mut impl Read, buf: &mut [u8], room
             Ok(false) => return text_lines::finish(&mut out, number),
             Err(unread) => {
                 text_lines::finish(&mut out, number);
-                return text_lines::tell_unread(rt, number, unread);
+                return text_lines::tell(rt, number, unread);
             }
         }
         if !lines::respond(&mut out, &mut session, input.line(), number) {

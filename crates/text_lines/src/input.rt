@@ -5,6 +5,7 @@ ghost use Rattle.text.specs.Bytes.{index_of, slice};
 ghost use Rattle.text_lines.specs.Inputs.{Filled, Found, waiting, line_end};
 ghost use Rattle.io.specs.Counts.{IsPrefixLen};
 
+use std::fmt;
 use std::io::Read;
 
 // Why there is no next line, where the input has not ended.
@@ -14,9 +15,18 @@ pub enum Unread {
     TooLong,
 }
 
+impl fmt::Display for Unread {
+    fn fmt<W: fmt::Write>(&self, f: &mut fmt::Formatter<W>) -> fmt::Result {
+        f.write_str(match self {
+            Unread::Failed => "the input cannot be read.",
+            Unread::TooLong => "the line is too long.",
+        })
+    }
+}
+
 // What a reader still has: more may come, or it has ended, or it cannot be read.
 #[derive(Clone, Copy, PartialEq, Eq)]
-pub enum Rest {
+enum Rest {
     More,
     Ended,
     Failed,
@@ -26,13 +36,13 @@ pub enum Rest {
 // that are not read yet from `next` to `filled`.
 #[derive(Drop)]
 pub struct Input<'a, F> {
-    pub from: &'a mut F,
-    pub buffer: &'a mut [u8],
-    pub start: usize,
-    pub end: usize,
-    pub next: usize,
-    pub filled: usize,
-    pub rest: Rest,
+    from: &'a mut F,
+    buffer: &'a mut [u8],
+    start: usize,
+    end: usize,
+    next: usize,
+    filled: usize,
+    rest: Rest,
 }
 
 impl<'a, F: Read> Input<'a, F> {

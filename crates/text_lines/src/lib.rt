@@ -11,5 +11,5 @@ pub use output::{Output, put, put_number};
 pub use parts::Ascii;
 pub use report::{
     finish, progress, tell, tell_about, tell_choice, tell_early, tell_fault, tell_missing,
-    tell_most, tell_unread, written,
+    tell_most, written,
 };

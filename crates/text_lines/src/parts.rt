@@ -53,12 +53,11 @@ pub struct Choice<'a>(pub &'a [&'a [u8]]);
 
 impl fmt::Display for Choice<'_> {
     fn fmt<W: fmt::Write>(&self, f: &mut fmt::Formatter<W>) -> fmt::Result {
-        let n = self.0.len();
-        for i in 0..n {
+        for (i, word) in self.0.iter().enumerate() {
             if 0 < i {
-                f.write_str(if i + 1 == n { " or " } else { ", " })?;
+                f.write_str(if i + 1 == self.0.len() { " or " } else { ", " })?;
             }
-            Ascii(self.0[i]).fmt(f)?;
+            Ascii(word).fmt(f)?;
         }
         Ok(())
     }

@@ -1,7 +1,10 @@
 // Sentences on standard error. One about a line that is refused begins with `line ` and the line's
 // number, from 1; any other begins with `note: `. The runtime, the number and the scan stay
-// parameters: a line gets one sentence, and a struct of the three would be made for it alone.
-use crate::input::Unread;
+// parameters, since a struct of them is no plainer: a line gets one sentence, so that
+// `tell_fault(rt, number, scan, fault)` would be `About { rt, number, scan }.tell_fault(fault)`, and
+// sentences without a field would need a second struct of the first two.
+ghost use Rattle.std.specs.Prelude.{◌≡◌, not};
+
 use crate::output::Output;
 use crate::parts::{Choice, Named};
 use std::fmt::Display;
@@ -12,14 +15,6 @@ const PROGRESS: u64 = 1000000;
 // `line 7: ` and the words.
 pub fn tell(rt: &impl Eprint, number: u64, words: impl Display + Drop) {
     let _ = eprintln!(rt; "line {number}: {words}");
-}
-
-// Why there is no line.
-pub fn tell_unread(rt: &impl Eprint, number: u64, unread: Unread) {
-    match unread {
-        Unread::Failed => tell(rt, number, "the input cannot be read."),
-        Unread::TooLong => tell(rt, number, "the line is too long."),
-    }
 }
 
 // What is wrong with the field at which the scan of a line stopped:
@@ -102,13 +97,19 @@ pub fn progress(rt: &impl Eprint, number: u64) {
 }
 
 // Writes out what is left, and tells where a write has failed.
-pub fn finish<R: Print + Eprint>(out: &mut Output<'_, '_, R>, number: u64) {
+pub fn finish<R: Print + Eprint>(out: &mut Output<'_, '_, R>, number: u64)
+    ensures same_reference { out.new.buffer.ghost_name ≡ out.old.buffer.ghost_name }
+    ensures buffer { out.new.buffer.now ≡ out.old.buffer.now }
+    ensures at { out.new.at ≡ 0 }
+{
     out.flush();
     written(out, number);
 }
 
 // Whether no write has failed; else that is told.
-pub fn written<R: Print + Eprint>(out: &Output<'_, '_, R>, number: u64) -> bool {
+pub fn written<R: Print + Eprint>(out: &Output<'_, '_, R>, number: u64) -> bool
+    ensures { result ≡ not out.now.failed }
+{
     if out.failed {
         tell(out.rt, number, "the answers cannot be written.");
     }
