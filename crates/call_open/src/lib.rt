@@ -8,184 +8,19 @@ ghost use Rattle.events.specs.Events.{Bind, Prompt, no_rungs};
 ghost use Rattle.events.specs.Told.{Tells};
 ghost use Rattle.retire.specs.Retire.{only};
 ghost use Rattle.answer.specs.Answers.{Answers};
-ghost use Rattle.call_open.specs.Blank.{no_ladder, no_final, no_repeats, no_epoch, no_current, no_drain, no_attempt, no_pend_i, no_pend_r, idle as idle_of, no_candidates};
 ghost use Rattle.call_open.specs.Open.{new_memory, first_epoch, alone as alone_of, blank_state, install_out, open_of};
 ghost use Rattle.call_open.specs.Exact.{OpenExact};
 
 use answer::Answer;
 use candidates::Candidates;
-use cycle::{Attempt, Cycle, PendI, PendR};
-use epoch::{Drain, Epoch, Final, Ids, Index, MayEpoch, MayLadder};
+use cycle::Cycle;
+use epoch::{Drain, Epoch, Ids, Index, MayEpoch};
 use events::Log;
-use ladder::{Ladder, Schedule};
 use numbers::evidence::Evidence;
 use numbers::purpose::Purpose;
 use settings::Config;
 use state::{Bit, Memory, Profile, State};
 use time::When;
-
-// What stands behind a flag that is off, and in a case that the cycle is not in: zeros.
-
-#[tactic(auto, unfolding(crate::specs::Blank::no_ladder))]
-fn no_ladder() -> Ladder
-    ensures { result ≡ no_ladder }
-{
-    Ladder {
-        origin: 0,
-        sched: Schedule::EMPTY,
-        next: 0,
-    }
-}
-
-#[tactic(auto, unfolding(crate::specs::Blank::no_final))]
-fn no_final() -> Final
-    ensures { result ≡ no_final }
-{
-    Final {
-        some: false,
-        msg: 0,
-        ladder: no_ladder(),
-    }
-}
-
-#[tactic(auto, unfolding(crate::specs::Blank::no_repeats))]
-fn no_repeats() -> MayLadder
-    ensures { result ≡ no_repeats }
-{
-    MayLadder {
-        some: false,
-        ladder: no_ladder(),
-    }
-}
-
-#[tactic(auto, unfolding(crate::specs::Blank::no_epoch))]
-fn no_epoch() -> Epoch
-    ensures { result ≡ no_epoch }
-{
-    Epoch {
-        tag: 0,
-        session: 0,
-        sent: 0,
-        ids: Ids {
-            lease: Index::NONE,
-            theirs: Index::NONE,
-            transport: 0,
-        },
-        k: false,
-        responder: false,
-        base: When::NONE,
-        started: 0,
-        route: When::NONE,
-        ext: 0,
-        delegated: false,
-        floor: When::NONE,
-        heard: When::NONE,
-        moved: When::NONE,
-        assumed: false,
-        fin: no_final(),
-        elicit: no_repeats(),
-        prompted: When::NONE,
-    }
-}
-
-#[tactic(auto, unfolding(crate::specs::Blank::no_current))]
-fn no_current() -> MayEpoch
-    ensures { result ≡ no_current }
-{
-    MayEpoch {
-        some: false,
-        ep: no_epoch(),
-    }
-}
-
-#[tactic(auto, unfolding(crate::specs::Blank::no_drain))]
-fn no_drain() -> Drain
-    ensures { result ≡ no_drain }
-{
-    Drain {
-        some: false,
-        ep: no_epoch(),
-        deadline: 0,
-        evidenced: false,
-    }
-}
-
-#[tactic(auto, unfolding(crate::specs::Blank::no_attempt))]
-fn no_attempt() -> Attempt
-    ensures { result ≡ no_attempt }
-{
-    Attempt {
-        hs: 0,
-        out: 0,
-        lease: Index::NONE,
-        transport: 0,
-        first: 0,
-        ladder: no_ladder(),
-        deadline: 0,
-        resent: false,
-    }
-}
-
-#[tactic(auto, unfolding(crate::specs::Blank::no_pend_i))]
-fn no_pendi() -> PendI
-    ensures { result ≡ no_pend_i }
-{
-    PendI {
-        ep: no_epoch(),
-        wait: numbers::wait::HELD,
-        deadline: 0,
-        restart: false,
-        fin: no_final(),
-        probes: no_repeats(),
-        probed: When::NONE,
-        stayed: false,
-        reverted: false,
-    }
-}
-
-#[tactic(auto, unfolding(crate::specs::Blank::no_pend_r))]
-fn no_pendr() -> PendR
-    ensures { result ≡ no_pend_r }
-{
-    PendR {
-        ep: no_epoch(),
-        deadline: 0,
-        restart: false,
-        answer: When::NONE,
-    }
-}
-
-#[tactic(auto, unfolding(crate::specs::Blank::idle))]
-fn idle() -> Cycle
-    ensures { result ≡ idle_of }
-{
-    Cycle {
-        kind: numbers::cycle::IDLE,
-        init: no_attempt(),
-        pendi: no_pendi(),
-        pendr: no_pendr(),
-    }
-}
-
-#[tactic(auto, unfolding(crate::specs::Blank::no_candidates))]
-fn no_candidates() -> Candidates
-    ensures { result ≡ no_candidates }
-{
-    Candidates {
-        hs: [0; 32],
-        msg1: [0; 32],
-        ack: [0; 32],
-        carrier: [0; 32],
-        route: [0; 32],
-        born: [0; 32],
-        deadline: [0; 32],
-        bounded: [0; 32],
-        bound: [0; 32],
-        seq: [0; 32],
-        len: 0,
-        next: 0,
-    }
-}
 
 // The memory of a new link (`Memory::new`), with the jitter that `install` draws.
 #[tactic(auto, unfolding(crate::specs::Open::new_memory))]
@@ -194,10 +29,7 @@ fn new_memory(time: u64, spread: i32) -> Memory
 {
     Memory {
         peer_epoch: When::NONE,
-        peer_k: Bit {
-            some: false,
-            on: false,
-        },
+        peer_k: Bit::NONE,
         jitter: spread,
         damp: When::NONE,
         backoff: When::NONE,
@@ -218,7 +50,7 @@ fn new_memory(time: u64, spread: i32) -> Memory
 
 // The epoch of a new link as `install` leaves it: it starts at the instant, and a responder was
 // prompted then.
-#[tactic(auto, unfolding(crate::specs::Open::first_epoch, crate::specs::Blank::no_epoch))]
+#[tactic(auto, unfolding(crate::specs::Open::first_epoch, crate::specs::Blank::no_final, crate::specs::Blank::no_repeats, crate::specs::Blank::no_ladder))]
 fn first_epoch(responder: bool, transport: u64, lease: Index, time: u64) -> Epoch
     ensures { result ≡ first_epoch responder transport lease time }
 {
@@ -226,28 +58,28 @@ fn first_epoch(responder: bool, transport: u64, lease: Index, time: u64) -> Epoc
         tag: 1,
         ids: Ids {
             lease,
-            theirs: Index::NONE,
             transport,
+            ..Ids::NONE
         },
         responder,
         base: When::of(time),
         started: time,
         prompted: responder.then_some(time).into(),
-        ..no_epoch()
+        ..Epoch::BLANK
     }
 }
 
 // A memory and a current epoch or none, with nothing else in the state.
-#[tactic(auto, unfolding(crate::specs::Open::alone))]
+#[tactic(auto, unfolding(crate::specs::Open::alone, crate::specs::Blank::no_drain, crate::specs::Blank::idle, crate::specs::Blank::no_candidates, crate::specs::Blank::no_attempt, crate::specs::Blank::no_pend_i, crate::specs::Blank::no_pend_r, crate::specs::Blank::no_epoch, crate::specs::Blank::no_final, crate::specs::Blank::no_repeats, crate::specs::Blank::no_ladder))]
 fn alone(mem: Memory, cur: MayEpoch) -> State
     ensures { result ≡ alone_of mem cur }
 {
     State {
         mem,
         cur,
-        drain: no_drain(),
-        cycle: idle(),
-        cands: no_candidates(),
+        drain: Drain::NONE,
+        cycle: Cycle::IDLE,
+        cands: Candidates::NONE,
     }
 }
 
@@ -256,7 +88,7 @@ fn alone(mem: Memory, cur: MayEpoch) -> State
 fn blank() -> State
     ensures { result ≡ blank_state }
 {
-    alone(new_memory(0, 0), no_current())
+    alone(new_memory(0, 0), MayEpoch::NONE)
 }
 
 // With a lease, frames for its index come to the current epoch: purpose 2.

@@ -88,12 +88,11 @@ pub fn status(s: State, cfg: Config, p: Profile, time: u64) -> Shown
             quiet: When::NONE,
         };
     }
-    let tag = s.cur.some.then_some(s.cur.ep.tag);
     let next = wake::next_wake(&s, &cfg, p);
     Shown {
         number: 0,
         place: 0,
-        tag: tag.into(),
+        tag: s.cur.tag().into(),
         kind: kind_shown(&s.cycle),
         wake: next.into(),
         quiet: quiet_time(&s, time),

@@ -4,10 +4,10 @@
 // case is part of the state. Each record is laid out as C does, so the kind and the wait stay numbers.
 #![tactic(auto)]
 
-ghost use Rattle.std.specs.Prelude.{◌≡◌};
+ghost use Rattle.std.specs.Prelude.{◌≡◌, option_map};
 ghost use Rattle.numbers.specs.Cases.{at_idle, at_init, at_pend_i, at_pend_r, at_held, at_evidence, at_delay};
 ghost use Rattle.cycle.specs.Kind.{is_idle, is_init, is_pend_i, is_pend_r, waits_held, waits_evidence, waits_delay};
-ghost use Rattle.cycle.specs.Held.{is_own, is_peers};
+ghost use Rattle.cycle.specs.Held.{pending, is_own, is_peers};
 
 use epoch::{Epoch, Final, Index, MayLadder};
 use ladder::Ladder;
@@ -133,6 +133,26 @@ impl Cycle {
         ensures idle { is_idle self.now.kind ≡ at_idle result }
     {
         Stage::from(self.kind)
+    }
+
+    // The pending epoch, in either role, where there is one.
+    #[tactic(auto, unfolding(crate::specs::Held::pending))]
+    pub fn pending(&self) -> Option<&Epoch>
+        ensures { option_map (λ e. e.now) result ≡ pending self.now }
+    {
+        match self.stage() {
+            Stage::PendI => Some(&self.pendi.ep),
+            Stage::PendR => Some(&self.pendr.ep),
+            Stage::Idle | Stage::Init => None,
+        }
+    }
+
+    // The pending epoch's tag, where there is one.
+    #[tactic(auto, unfolding(crate::specs::Held::pending))]
+    pub fn pending_tag(&self) -> Option<u64>
+        ensures { result ≡ option_map (λ e. e.tag) (pending self.now) }
+    {
+        self.pending().map(|e| e.tag)
     }
 
     // Whether an own completed attempt is held under `tag`.

@@ -2,12 +2,14 @@
 //
 // Every record here may be held by Rust, so each is laid out as C does. A case of the source's
 // `Option` is a flag beside the value; a two-valued enum is a flag. What stands behind a flag that
-// is off is no part of the state. So an epoch that is there or not has two records, and its test by a
-// tag takes the flag and the tag.
+// is off is no part of the state.
 #![tactic(auto)]
 
 ghost use Rattle.std.specs.Prelude.{◌≡◌, is_some, IfSome};
+ghost use Rattle.std.specs.Bool.{then_some};
 ghost use Rattle.epoch.specs.Held.{is_tag};
+
+mod previous;
 
 use ladder::Ladder;
 use time::When;
@@ -156,6 +158,21 @@ impl MayEpoch {
         some: false,
         ep: Epoch::BLANK,
     };
+
+    // The epoch's tag, where there is one.
+    pub fn tag(&self) -> Option<u64>
+        ensures { result ≡ then_some self.now.some self.now.ep.tag }
+    {
+        self.some.then_some(self.ep.tag)
+    }
+
+    // Whether an epoch is held under `tag`.
+    #[tactic(auto, unfolding(crate::specs::Held::is_tag))]
+    pub fn is_tag(&self, tag: u64) -> bool
+        ensures { result ≡ is_tag self.now.some self.now.ep.tag tag }
+    {
+        self.some && self.ep.tag == tag
+    }
 }
 
 // The previous epoch, kept after a cutover, if there is one.
@@ -176,12 +193,4 @@ impl Drain {
         deadline: 0,
         evidenced: false,
     };
-}
-
-// Whether something is held under `tag`.
-#[tactic(auto, unfolding(crate::specs::Held::is_tag))]
-pub fn is_tag(some: bool, held: u64, tag: u64) -> bool
-    ensures { result ≡ is_tag some held tag }
-{
-    some && held == tag
 }

@@ -5,7 +5,7 @@ ghost use Rattle.std.specs.Prelude.{◌≡◌};
 ghost use Rattle.time.specs.Options.{option_of};
 ghost use Rattle.events.specs.Told.{Tells};
 ghost use Rattle.refusal.specs.Refused.{refused_of};
-ghost use Rattle.frame_slots.specs.Frame.{Did, pending_tag, slot_tag, frame_back, ended_out, pend_of, pending_frame, current_frame, previous_frame, frame_of};
+ghost use Rattle.frame_slots.specs.Frame.{Did, slot_tag, frame_back, ended_out, pend_of, pending_frame, current_frame, previous_frame, frame_of};
 
 use cutover::Pend;
 use cycle::Cycle;
@@ -31,27 +31,15 @@ pub struct FrameProof {
     pub probe: bool,
 }
 
-// The pending epoch's tag, in either role.
-#[tactic(auto, unfolding(crate::specs::Frame::pending_tag))]
-fn pending_tag(c: &Cycle) -> Option<u64>
-    ensures { result ≡ option_of (pending_tag c.now) }
-{
-    match c.stage() {
-        Stage::PendI => Some(c.pendi.ep.tag),
-        Stage::PendR => Some(c.pendr.ep.tag),
-        Stage::Idle | Stage::Init => None,
-    }
-}
-
 // The tag of the epoch that a slot holds.
-#[tactic(auto, unfolding(crate::specs::Frame::slot_tag))]
+#[tactic(auto, using(crate::proofs::Tags::tag_held), unfolding(crate::specs::Frame::slot_tag))]
 fn slot_tag(s: &State, slot: u8) -> Option<u64>
     ensures { result ≡ option_of (slot_tag s.now slot) }
 {
     match Slot::of(slot) {
-        Some(Slot::Current) => s.cur.some.then_some(s.cur.ep.tag),
-        Some(Slot::Pending) => pending_tag(&s.cycle),
-        Some(Slot::Previous) => s.drain.some.then_some(s.drain.ep.tag),
+        Some(Slot::Current) => s.cur.tag(),
+        Some(Slot::Pending) => s.cycle.pending_tag(),
+        Some(Slot::Previous) => s.drain.tag(),
         None => None,
     }
 }

@@ -24,9 +24,9 @@ fn slot_of(s: &State, tag: u64) -> Option<Slot>
     ensures previous { pick (is_tag s.now.cur.some s.now.cur.ep.tag tag) Bool.false (is_tag s.now.drain.some s.now.drain.ep.tag tag) ≡ gives_previous result }
     ensures pending { pick (is_tag s.now.cur.some s.now.cur.ep.tag tag) Bool.false (pick (is_tag s.now.drain.some s.now.drain.ep.tag tag) Bool.false (is_pending s.now.cycle tag)) ≡ gives_pending result }
 {
-    if epoch::is_tag(s.cur.some, s.cur.ep.tag, tag) {
+    if s.cur.is_tag(tag) {
         Some(Slot::Current)
-    } else if epoch::is_tag(s.drain.some, s.drain.ep.tag, tag) {
+    } else if s.drain.is_tag(tag) {
         Some(Slot::Previous)
     } else if s.cycle.is_own(tag) || s.cycle.is_peers(tag) {
         Some(Slot::Pending)

@@ -91,7 +91,6 @@ pub fn close(s: &State, g: Given, ended: bool, log: &mut Log)
 {
     let ends = tests(s, &g.cfg, ended, log);
     go(s, g, ends, log);
-    let cur = s.cur.some.then_some(s.cur.ep.tag);
     let pend = waits_for(&s.cycle).then_some(s.cycle.pendi.ep.tag);
-    log.withdraw(cur, pend);
+    log.withdraw(s.cur.tag(), pend);
 }

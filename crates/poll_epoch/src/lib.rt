@@ -26,7 +26,7 @@ pub struct Kept {
 pub fn drain_due(d: Drain, tag: u64, log: &mut Log) -> Drain
     ensures { (result ≡ (drain_due d tag).drain) × Tells (drain_due d tag).out log.old log.new }
 {
-    if !epoch::is_tag(d.some, d.ep.tag, tag) {
+    if !d.is_tag(tag) {
         return d;
     }
     retire::retire(d.ep, log);
@@ -60,7 +60,7 @@ fn fin_taken(cur: MayEpoch, ladder: Ladder, t: Taken, log: &mut Log) -> Kept
 pub fn fin_due(cur: MayEpoch, tag: u64, time: u64, log: &mut Log) -> Kept
     ensures { DidCur (fin_due cur tag time) log.old result log.new }
 {
-    if epoch::is_tag(cur.some, cur.ep.tag, tag) && cur.ep.fin.some {
+    if cur.is_tag(tag) && cur.ep.fin.some {
         let mut ladder = cur.ep.fin.ladder;
         if let Some(t) = ladder.take_lent(time) {
             return fin_taken(cur, ladder, t, log);
@@ -93,7 +93,7 @@ pub fn elicit_due(cur: MayEpoch, tag: u64, time: u64, log: &mut Log) -> Kept
     ensures { DidCur (elicit_due cur tag time) log.old result log.new }
 {
     let waits = !cur.ep.moved.some && cur.ep.elicit.some;
-    if epoch::is_tag(cur.some, cur.ep.tag, tag) && waits {
+    if cur.is_tag(tag) && waits {
         let mut ladder = cur.ep.elicit.ladder;
         if let Some(t) = ladder.take_lent(time) {
             return elicit_taken(cur, ladder, t, tag, time, log);

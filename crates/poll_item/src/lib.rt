@@ -89,9 +89,8 @@ fn on_fail(s: State, left: Failed) -> Ran
 fn probe(s: State, g: Given, tag: u64, log: &mut Log) -> Cycle
     ensures { DidCycle (probe_due s.cycle s.cur.some s.cur.ep.tag (grace s.mem g.cfg) tag g.now) log.old result log.new }
 {
-    let current = s.cur.some.then_some(s.cur.ep.tag);
     let wait = grace::grace(s.mem, g.cfg);
-    poll_cycle::probe_due(s.cycle, current, wait, tag, g.now, log)
+    poll_cycle::probe_due(s.cycle, s.cur.tag(), wait, tag, g.now, log)
 }
 
 // A resend of the own attempt.

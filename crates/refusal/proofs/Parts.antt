@@ -44,7 +44,7 @@ module _ (l : List Test) (r : Refused) (e : r ≡ first l) where
 
 -- a refusal has a number
 pub numbered_one : (e : Refusal) → number_of e ≡ 0 → ⊥
-numbered_one (back.Settings place) h = omega (arith, h)
+numbered_one (back.Settings check) h = omega (arith, h)
 numbered_one back.Profile h = omega (arith, h)
 numbered_one back.Candidates h = omega (arith, h)
 numbered_one back.NoCurrent h = omega (arith, h)

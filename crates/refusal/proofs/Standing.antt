@@ -1,6 +1,8 @@
 -- The conditions on a state, place by place, as the code tries them.
 use Rattle.std.specs.Prelude.{ℕ, Bool, true, false, ◌&&◌, ◌||◌, ◌≡◌, refl, List, [], ◌∷◌, ◌++◌, map, eqb}
-use Rattle.std.specs.Prelude.{Option}
+use Rattle.std.specs.Prelude.{Option, Some, None, MatchOption, is_some, option_map}
+use Rattle.std.specs.Option.{option_map_or}
+use Rattle.cycle.specs.Held.{pending}
 use Rattle.std.specs.Bool.{then_some}
 use Rattle.time.specs.Options.{when_of}
 use Rattle.time.specs.Time.{whenever}
@@ -160,12 +162,51 @@ tags-apart s =
     ∙ tags-listed s.cur.some (is_pending s.cycle.kind) s.drain.some s.cur.ep (pending_ep s.cycle) s.drain.ep)
     ∙ apart (tag_of s.cur.some s.cur.ep) (tag_of (is_pending s.cycle.kind) (pending_ep s.cycle)) (tag_of s.drain.some s.drain.ep)
 
+-- the pending epoch, and its tag
+pub pending_when : (c : Cycle) → when_of (option_map tag (pending c)) ≡ whenever (is_pending c.kind) (pending_ep c).tag
+unfolding pending is_pending pending_ep
+pending_when c = under (is_pend_i c.kind) (is_pend_r c.kind)
+  where
+    under : (i r : Bool) → when_of (option_map tag (pick i (Some c.pendi.ep) (pick r (Some c.pendr.ep) None))) ≡ whenever (i || r) (pick i c.pendi.ep c.pendr.ep).tag
+    under true r = refl
+    under false true = refl
+    under false false = refl
+
+pub pending_there : {A : Type 0} (f : A → Epoch) (c : Cycle) (o : Option A) → option_map f o ≡ pending c → is_some o ≡ is_pending c.kind
+unfolding pending is_pending
+pending_there f c o e = sym (kept o) ∙ ap is_some e ∙ under (is_pend_i c.kind) (is_pend_r c.kind)
+  where
+    kept : (o : Option _) → is_some (option_map f o) ≡ is_some o
+    kept None = refl
+    kept (Some a) = refl
+
+    under : (i r : Bool) → is_some (pick i (Some c.pendi.ep) (pick r (Some c.pendr.ep) None)) ≡ i || r
+    under true r = refl
+    under false true = refl
+    under false false = refl
+
+pending_held : (c : Cycle) → option_map_or epoch_bad (pending c) false ≡ held_bad (is_pending c.kind) (pending_ep c)
+unfolding pending is_pending pending_ep held_bad
+pending_held c = under (is_pend_i c.kind) (is_pend_r c.kind)
+  where
+    under : (i r : Bool) → option_map_or epoch_bad (pick i (Some c.pendi.ep) (pick r (Some c.pendr.ep) None)) false ≡ (i || r) && epoch_bad (pick i c.pendi.ep c.pendr.ep)
+    under true r = refl
+    under false true = refl
+    under false false = refl
+
+pub pending_tested : {A : Type 0} (f : A → Epoch) (c : Cycle) (o : Option A) (r : Bool) → option_map f o ≡ pending c → MatchOption o (r ≡ false) (λ a. r ≡ epoch_bad (f a)) → r ≡ held_bad (is_pending c.kind) (pending_ep c)
+pending_tested f c o r e h = told o h ∙ ap (λ p. option_map_or epoch_bad p false) e ∙ pending_held c
+  where
+    told : (o : Option _) → MatchOption o (r ≡ false) (λ a. r ≡ epoch_bad (f a)) → r ≡ option_map_or epoch_bad (option_map f o) false
+    told None h = h
+    told (Some a) h = h
+
 -- the tags as options
-pub tags-held : (s : State) (a b c : Option ℕ) → a ≡ then_some s.cur.some s.cur.ep.tag → when_of b ≡ whenever (is_pending s.cycle.kind) (pending_ep s.cycle).tag → c ≡ then_some s.drain.some s.drain.ep.tag → (r : Bool) → r ≡ tags_bad (when_of a) (when_of b) (when_of c) → r ≡ repeated (tags_of s)
+pub tags-held : (s : State) (a b c : Option ℕ) → a ≡ then_some s.cur.some s.cur.ep.tag → b ≡ option_map tag (pending s.cycle) → c ≡ then_some s.drain.some s.drain.ep.tag → (r : Bool) → r ≡ tags_bad (when_of a) (when_of b) (when_of c) → r ≡ repeated (tags_of s)
 unfolding tags_bad shared_of
 tags-held s a b c e f g r h =
     h
-    ∙ rw (e, f, g)
+    ∙ rw (e, f, g, pending_when s.cycle)
     (under s.cur.some (is_pending s.cycle.kind) s.drain.some
     ∙ sym (tags-apart s))
   where

@@ -1,6 +1,7 @@
 -- What a call answers where it is sent back: the number of the refusal, and in 1 the place of the check.
 use Rattle.std.specs.Prelude.{ℕ, Result, Ok, Err}
 use Rattle.numbers.specs.Numbers.{refused_settings, refused_profile, refused_candidates, refused_no_current, refused_shared, refused_ladder, refused_draw, refused_slot, refused_tag, refused_no_start, refused_sent}
+use Rattle.settings.specs.Checks.{check_place}
 use Rattle.refusal.specs.declared.Refusal.{Refusal}
 use Rattle.refusal.specs.declared.Refusal.TheVariants as back
 
@@ -10,7 +11,7 @@ pub record Refused : Type 0 where
   pub place : ℕ
 
 abbrev pub number_of : Refusal → ℕ
-number_of (back.Settings place) = refused_settings
+number_of (back.Settings check) = refused_settings
 number_of back.Profile = refused_profile
 number_of back.Candidates = refused_candidates
 number_of back.NoCurrent = refused_no_current
@@ -23,7 +24,7 @@ number_of back.NoStart = refused_no_start
 number_of back.Sent = refused_sent
 
 abbrev pub place_of : Refusal → ℕ
-place_of (back.Settings place) = place
+place_of (back.Settings check) = check_place check
 place_of back.Profile = 0
 place_of back.Candidates = 0
 place_of back.NoCurrent = 0

@@ -5,7 +5,6 @@
 ghost use Rattle.std.specs.Prelude.{◌≡◌, ◌||◌, [], ◌∷◌};
 ghost use Rattle.numbers.specs.Numbers.{refused_draw};
 ghost use Rattle.time.specs.Options.{when_of};
-ghost use Rattle.time.specs.Time.{whenever};
 ghost use Rattle.candidates.specs.Repeats.{repeated};
 ghost use Rattle.refusal.specs.Refused.{number_of, place_of, refused_of};
 ghost use Rattle.refusal.specs.Refusal.{profile_bad, is_pending, epochs_bad, tags_of, numbers_bad, ladder_bad, ladders_bad, spread_bad, extra_bad, first, by, given_tests, before_open, before_poll, before_frame, before_link, before_told};
@@ -15,14 +14,14 @@ use cycle::Cycle;
 use epoch::Epoch;
 use ladder::{Ladder, MAX_LEN};
 use numbers::cycle::Stage;
-use settings::Config;
+use settings::{Check, Config};
 use state::{Profile, State};
 
 // Why a call is sent back.
 #[derive(Clone, Copy, PartialEq, Eq)]
 pub enum Refusal {
-    // The settings fail a check, whose place in file order, from 1, is given.
-    Settings(u8),
+    // The settings fail this check, the first that does in file order.
+    Settings(Check),
     // A profile value lies outside its range.
     Profile,
     // The state holds more than 32 candidates.
@@ -70,7 +69,7 @@ impl Refusal {
         ensures { result ≡ place_of self }
     {
         match self {
-            Refusal::Settings(place) => place,
+            Refusal::Settings(check) => check.place(),
             _ => 0,
         }
     }
@@ -97,8 +96,7 @@ fn ladder_bad(l: &Ladder) -> bool
 pub fn spread_bad(j: u16, spread: i32) -> bool
     ensures { result ≡ spread_bad j spread }
 {
-    let top = i32::from(j);
-    spread < -top || top < spread
+    u32::from(j) < spread.unsigned_abs()
 }
 
 // 7: an extra above j.
@@ -117,11 +115,10 @@ pub fn draws_bad(j: u16, spread: i32, extra: u32) -> bool
 }
 
 // Whether the cycle has a pending epoch.
-#[tactic(auto, unfolding(crate::specs::Refusal::is_pending))]
 fn is_pending(c: &Cycle) -> bool
     ensures { result ≡ is_pending c.now.kind }
 {
-    matches!(c.stage(), Stage::PendI | Stage::PendR)
+    c.pending().is_some()
 }
 
 // 4: a pending or drained epoch without a current one.
@@ -130,18 +127,6 @@ pub fn epochs_bad(s: &State) -> bool
     ensures { result ≡ epochs_bad s.now }
 {
     !s.cur.some && (is_pending(&s.cycle) || s.drain.some)
-}
-
-// The pending epoch's tag, where there is one.
-#[tactic(auto, unfolding(crate::specs::Standing::pending_ep, crate::specs::Refusal::is_pending))]
-fn pending_tag(c: &Cycle) -> Option<u64>
-    ensures { when_of result ≡ whenever (is_pending c.now.kind) (pending_ep c.now).tag }
-{
-    match c.stage() {
-        Stage::PendI => Some(c.pendi.ep.tag),
-        Stage::PendR => Some(c.pendr.ep.tag),
-        Stage::Idle | Stage::Init => None,
-    }
 }
 
 // Whether both are there and equal.
@@ -164,10 +149,7 @@ fn tags_bad(a: Option<u64>, b: Option<u64>, c: Option<u64>) -> bool
 pub fn tags_repeat(s: &State) -> bool
     ensures { result ≡ repeated (tags_of s.now) }
 {
-    let cur = s.cur.some.then_some(s.cur.ep.tag);
-    let pending = pending_tag(&s.cycle);
-    let drained = s.drain.some.then_some(s.drain.ep.tag);
-    tags_bad(cur, pending, drained)
+    tags_bad(s.cur.tag(), s.cycle.pending_tag(), s.drain.tag())
 }
 
 // 5: two epochs share a tag, or two candidates a sequence number.
@@ -203,15 +185,10 @@ pub fn cycle_bad(c: &Cycle) -> bool
 }
 
 // 6: a ladder of the pending epoch is bad.
-#[tactic(auto, unfolding(crate::specs::Standing::held_bad, crate::specs::Standing::pending_ep, crate::specs::Refusal::is_pending))]
 pub fn pending_bad(c: &Cycle) -> bool
     ensures { result ≡ held_bad (is_pending c.now.kind) (pending_ep c.now) }
 {
-    match c.stage() {
-        Stage::PendI => epoch_bad(&c.pendi.ep),
-        Stage::PendR => epoch_bad(&c.pendr.ep),
-        Stage::Idle | Stage::Init => false,
-    }
+    c.pending().is_some_and(epoch_bad)
 }
 
 // 6: a ladder that stands is bad.
@@ -251,7 +228,7 @@ fn before_given(cfg: Config, p: Profile) -> Result<(), Refusal>
     ensures { refused_of result ≡ first (given_tests cfg p) }
 {
     if let Err(check) = settings::accept(cfg) {
-        return Err(Refusal::Settings(check.place()));
+        return Err(Refusal::Settings(check));
     }
     if profile_bad(p) {
         return Err(Refusal::Profile);

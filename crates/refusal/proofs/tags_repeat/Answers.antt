@@ -3,4 +3,4 @@ use Rattle.refusal.proofs.tags_repeat.Goals as goal
 
 pub returns : goal.returns
 returns c =
-    tags-held c.args.s.now _ _ _ c.then_some-cur.ensures c.pending_tag-pending.ensures c.then_some-drained.ensures c.tags_bad.result c.tags_bad.ensures
+    tags-held c.args.s.now _ _ _ c.tag.ensures c.pending_tag.ensures c.tag-2.ensures c.tags_bad.result c.tags_bad.ensures
