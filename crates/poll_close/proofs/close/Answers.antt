@@ -24,6 +24,6 @@ returns c =
     record {
       log =
           c.withdraw.ensures.withdrawn
-          ∙ simp (c.then_some-cur.ensures, c.then_some-pend.ensures, c.waits_for.ensures, withdrawn-held, c.go.ensures.log, c.tests-ends.ensures.told.appends, c.tests-ends.ensures.ends);
+          ∙ simp (c.tag.ensures, c.then_some-pend.ensures, c.waits_for.ensures, withdrawn-held, c.go.ensures.log, c.tests-ends.ensures.told.appends, c.tests-ends.ensures.ends);
       same_reference = c.withdraw.ensures.same_reference ∙ (c.go.ensures.same_reference ∙ c.tests-ends.ensures.told.same_reference);
     }
