@@ -1,7 +1,9 @@
 // The arguments of a call: a row of numbers, in which a flag is 0 or 1, an index and a number that may
 // be absent take two places, and a number with a sign stands 2^31 above itself. No function has a
 // `requires`: past the end of the row a number is 0, and a number that a narrower type does not hold
-// becomes its largest.
+// becomes its largest. `byte` and `word` differ in that type, and `index` and `when` in the record that
+// they make; a function for a pair would take the conversion and the largest number, or what makes the
+// record, to save a body of one line or two.
 #![tactic(auto)]
 
 ghost use Rattle.std.specs.Prelude.{◌≡◌, ◌+◌};
@@ -15,7 +17,7 @@ use time::When;
 pub const ARGS: usize = 16;
 
 // What 0 is in a place that holds a number with a sign.
-pub const ZERO: u64 = 2147483648;
+const ZERO: u64 = 2147483648;
 
 // The number at `i`.
 pub fn number(a: &[u64; ARGS], i: usize) -> u64
@@ -46,7 +48,7 @@ pub fn byte(a: &[u64; ARGS], i: usize) -> u8
 }
 
 #[tactic(auto, unfolding(crate::specs::Args::word_at))]
-pub fn word(a: &[u64; ARGS], i: usize) -> u32
+fn word(a: &[u64; ARGS], i: usize) -> u32
     ensures { result ≡ word_at a.now i }
 {
     narrow(number(a, i))

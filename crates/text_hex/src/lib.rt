@@ -22,9 +22,7 @@ pub fn read(scan: &mut Scan<'_>, into: &mut [u8]) -> Result<usize, Fault>
     if scan.accept(b"-") {
         return Ok(0);
     }
-    let Some(field) = text::next_field(scan.line, scan.at) else {
-        return Err(Fault::Missing);
-    };
+    let field = text::next_field(scan.line, scan.at).ok_or(Fault::Missing)?;
     let n = read_field(&scan.line[field.start..field.end], into)?;
     scan.at = field.next;
     Ok(n)

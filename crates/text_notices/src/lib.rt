@@ -1,7 +1,7 @@
 // The notices on a row of arguments. Each promises its call's definition at what the row holds. No
 // function has a `requires`. Each notice reads its instant, worker flag and spread itself: a shared reader would hand
 // back a tuple to take apart, which is no shorter. The state, the settings and the profile are passed one by one, as
-// crate notice takes them.
+// crate notice takes them: a record of the three would be taken apart in every function.
 #![tactic(auto)]
 
 ghost use Rattle.answer.specs.Answers.{Answers};
@@ -14,17 +14,11 @@ use state::{Profile, State};
 use text_args::ARGS;
 use text_words::Call;
 
-pub mod place;
+mod place;
 
 // A worker authenticated a frame.
 #[tactic(auto, unfolding(crate::specs::Notices::worker_on))]
-pub fn worker(
-    s: State,
-    cfg: Config,
-    profile: Profile,
-    a: &[u64; ARGS],
-    log: &mut [u64; 768],
-) -> Answer
+fn worker(s: State, cfg: Config, profile: Profile, a: &[u64; ARGS], log: &mut [u64; 768]) -> Answer
     ensures { Answers (worker_on s cfg profile a.now) result log.old log.new }
 {
     notice::worker(
@@ -43,7 +37,7 @@ pub fn worker(
 
 // A worker accepted a receive copy.
 #[tactic(auto, unfolding(crate::specs::Notices::delegated_on))]
-pub fn delegated(
+fn delegated(
     s: State,
     cfg: Config,
     profile: Profile,
@@ -59,9 +53,10 @@ pub fn delegated(
     notice::delegated(s, cfg, profile, time, workers, spread, tag, log)
 }
 
-// A worker is gone.
+// A worker is gone. What differs from `delegated` is the call of crate notice; a function for the two would take that
+// as a closure of eight arguments, and clauses that say what it answers at any of them, which is longer than the body.
 #[tactic(auto, unfolding(crate::specs::Notices::undelegated_on))]
-pub fn undelegated(
+fn undelegated(
     s: State,
     cfg: Config,
     profile: Profile,
@@ -79,7 +74,7 @@ pub fn undelegated(
 
 // An application message was sealed.
 #[tactic(auto, unfolding(crate::specs::Notices::data_sent_on))]
-pub fn data_sent(
+fn data_sent(
     s: State,
     cfg: Config,
     profile: Profile,
@@ -96,13 +91,7 @@ pub fn data_sent(
 
 // Whether a next hop exists, and the smoothed round trip.
 #[tactic(auto, unfolding(crate::specs::Notices::path_on))]
-pub fn path(
-    s: State,
-    cfg: Config,
-    profile: Profile,
-    a: &[u64; ARGS],
-    log: &mut [u64; 768],
-) -> Answer
+fn path(s: State, cfg: Config, profile: Profile, a: &[u64; ARGS], log: &mut [u64; 768]) -> Answer
     ensures { Answers (path_on s cfg profile a.now) result log.old log.new }
 {
     let time = text_args::number(a, place::NOW);
