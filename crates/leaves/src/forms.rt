@@ -1,80 +1,83 @@
 // The forms of answers, a line that begins with `= `, or some.
 use ladder::{Made, Schedule};
-use leaves_requests::{Answer, Derived, Step};
+use leaves_requests::{Answer, Step};
+use params::Params;
+use settings::Check;
 use text_lines::Output;
 
-pub fn write(out: &mut Output<'_, '_, impl Print>, answer: &Answer) {
+pub(crate) fn write(out: &mut Output<'_, '_, impl Print>, answer: &Result<Answer, Check>) {
     match answer {
-        Answer::Number(n) => number(out, b"= ", *n),
-        Answer::Made(made) => write_made(out, made),
-        Answer::Step(step) => write_step(out, step),
-        Answer::Place(place) => number(out, b"= place ", *place as u64),
-        Answer::Hold(hold) => number(out, b"= hold ", *hold),
-        Answer::Refused(check) => number(out, b"= refused ", check.place() as u64),
-        Answer::Derived(derived) => write_derived(out, derived),
+        Ok(Answer::Number(n)) => number(out, b"=", *n),
+        Ok(Answer::Made(made)) => write_made(out, made),
+        Ok(Answer::Step(step)) => write_step(out, step),
+        Ok(Answer::Failed(check)) => number(out, b"= place", check.map_or(0, place)),
+        Ok(Answer::Hold(hold)) => number(out, b"= hold", *hold),
+        Ok(Answer::Derived(params)) => write_params(out, params),
+        Err(check) => number(out, b"= refused", place(*check)),
     }
     out.bytes(b"\n");
 }
 
-// What stands before a number, and the number.
-fn number(out: &mut Output<'_, '_, impl Print>, before: &[u8], n: u64) {
-    out.bytes(before);
-    out.number(n);
+fn place(check: Check) -> u64 {
+    u64::from(check.place())
 }
 
-fn flag(out: &mut Output<'_, '_, impl Print>, before: &[u8], on: bool) {
-    number(out, before, on as u64);
+// A word and its number.
+fn number(out: &mut Output<'_, '_, impl Print>, word: &[u8], n: u64) {
+    out.bytes(word);
+    out.spaced(n);
+}
+
+fn flag(out: &mut Output<'_, '_, impl Print>, word: &[u8], on: bool) {
+    number(out, word, u64::from(on));
 }
 
 // The same, with `-` for none.
-fn optional(out: &mut Output<'_, '_, impl Print>, before: &[u8], n: Option<u64>) {
-    match n {
-        Some(n) => number(out, before, n),
-        None => {
-            out.bytes(before);
-            out.bytes(b"-");
-        }
-    }
+fn optional(out: &mut Output<'_, '_, impl Print>, word: &[u8], n: Option<u64>) {
+    out.bytes(word);
+    out.spaced_or(n, b" -");
 }
 
 // The length of a schedule, its keepalive map and its offsets.
-fn schedule(out: &mut Output<'_, '_, impl Print>, before: &[u8], sched: &Schedule) {
-    number(out, before, sched.len as u64);
-    number(out, b" ", sched.keepalive);
-    for at in sched.at.iter().take(sched.len as usize) {
-        number(out, b" ", *at);
+fn schedule(out: &mut Output<'_, '_, impl Print>, word: &[u8], sched: &Schedule) {
+    number(out, word, u64::from(sched.len));
+    out.spaced(sched.keepalive);
+    for at in sched.at.iter().take(usize::from(sched.len)) {
+        out.spaced(*at);
     }
 }
 
 fn write_made(out: &mut Output<'_, '_, impl Print>, made: &Made) {
-    schedule(out, b"= sched ", &made.sched);
-    number(out, b" dropped ", made.dropped as u64);
+    schedule(out, b"= sched", &made.sched);
+    number(out, b" dropped", u64::from(made.dropped));
 }
 
+// Where nothing is taken the numbers of what is taken are 0.
 fn write_step(out: &mut Output<'_, '_, impl Print>, step: &Step) {
-    optional(out, b"= next_at ", step.next_at);
-    flag(out, b" due ", step.due);
-    flag(out, b" any ", step.any);
-    flag(out, b" send ", step.send);
-    number(out, b" latest ", step.latest);
-    flag(out, b" last ", step.last);
-    number(out, b" next ", step.next as u64);
-    number(out, b" taken ", step.taken);
+    let left = step.left;
+    optional(out, b"= next_at", step.next_at);
+    flag(out, b" due", step.due);
+    flag(out, b" any", step.taken.is_some());
+    flag(out, b" send", step.taken.is_some_and(|t| t.send));
+    number(out, b" latest", step.taken.map_or(0, |t| t.latest));
+    flag(out, b" last", left.sched.len <= left.next);
+    number(out, b" next", u64::from(left.next));
+    number(out, b" taken", step.taken.map_or(0, |t| t.taken));
 }
 
-fn write_derived(out: &mut Output<'_, '_, impl Print>, derived: &Derived) {
-    number(out, b"= confirm ", derived.confirm);
-    optional(out, b" span ", derived.span);
-    number(out, b" grace ", derived.grace);
-    number(out, b" rung ", derived.rung);
-    number(out, b" gap ", derived.gap);
-    number(out, b" budget ", derived.budget);
-    number(out, b" inert ", derived.first.dropped as u64);
-    number(out, b" ", derived.probes.dropped as u64);
-    schedule(out, b"\n= first ", &derived.first.sched);
-    schedule(out, b"\n= fin ", &derived.fin);
-    schedule(out, b"\n= probes ", &derived.probes.sched);
-    schedule(out, b"\n= revert ", &derived.revert);
-    schedule(out, b"\n= elicit ", &derived.elicit);
-    schedule(out, b"\n= delayed ", &derived.delayed);
+fn write_params(out: &mut Output<'_, '_, impl Print>, params: &Params) {
+    number(out, b"= confirm", params.confirm);
+    optional(out, b" span", params.span);
+    number(out, b" grace", params.grace);
+    number(out, b" rung", params.rung);
+    number(out, b" gap", params.gap);
+    number(out, b" budget", params.budget);
+    number(out, b" inert", u64::from(params.inert.first));
+    out.spaced(u64::from(params.inert.probes));
+    schedule(out, b"\n= first", &params.first);
+    schedule(out, b"\n= fin", &params.fin);
+    schedule(out, b"\n= probes", &params.probes);
+    schedule(out, b"\n= revert", &params.revert);
+    schedule(out, b"\n= elicit", &params.elicit);
+    schedule(out, b"\n= delayed", &params.delayed);
 }

@@ -17,6 +17,8 @@ fn main(rt: HostRuntime) {
     filter(&rt, &mut rt.stdin(), &mut buf, &mut room);
 }
 
+// The same loop stands in `replay` and `runs`. One for the three would be a public function that takes the
+// step as a closure, and so the first of its crate with a `requires`: that the closure can be called.
 fn filter(rt: &(impl Print + Eprint), from: &mut impl Read, buf: &mut [u8], room: &mut [u8]) {
     let mut input = Input::new(from, buf);
     let mut out = Output::new(rt, room);

@@ -1,6 +1,16 @@
 // The answers to requests.
+ghost use Rattle.std.specs.Prelude.{◌≡◌, ◌-◌, MatchResult};
+ghost use Rattle.time.specs.Options.{when_of};
+ghost use Rattle.time.specs.Time.{backoff_of};
+ghost use Rattle.ladder.specs.Ladder.{next_at_of, due_of, take_of};
+ghost use Rattle.ladder.specs.Took.{took_of};
+ghost use Rattle.settings.specs.Checks.{check_place};
+ghost use Rattle.settings.specs.Settings.{place_of};
+ghost use Rattle.leaves_requests.specs.Answers.{said, answer_of};
+
 use crate::requests::Request;
-use ladder::{Ladder, Made, Schedule};
+use ladder::{Ladder, Made, Schedule, Taken};
+use params::Params;
 use settings::{Check, Config};
 
 #[derive(Clone, Copy)]
@@ -8,12 +18,10 @@ pub enum Answer {
     Number(u64),
     Made(Made),
     Step(Step),
-    // The place of the check that the settings fail, 0 where they fail none.
-    Place(u8),
-    Hold(u64),
     // The check that the settings fail.
-    Refused(Check),
-    Derived(Derived),
+    Failed(Option<Check>),
+    Hold(u64),
+    Derived(Params),
 }
 
 // When a ladder's next rung is, whether it is due, what is taken of the ladder, and how it then stands.
@@ -21,34 +29,17 @@ pub enum Answer {
 pub struct Step {
     pub next_at: Option<u64>,
     pub due: bool,
-    pub any: bool,
-    pub send: bool,
-    pub latest: u64,
-    pub last: bool,
-    pub next: u8,
-    pub taken: u64,
-}
-
-// All that follows from settings.
-#[derive(Clone, Copy)]
-pub struct Derived {
-    pub confirm: u64,
-    pub span: Option<u64>,
-    pub grace: u64,
-    pub rung: u64,
-    pub gap: u64,
-    pub budget: u64,
-    pub first: Made,
-    pub fin: Schedule,
-    pub probes: Made,
-    pub revert: Schedule,
-    pub elicit: Schedule,
-    pub delayed: Schedule,
+    pub taken: Option<Taken>,
+    pub left: Ladder,
 }
 
 impl Request {
-    pub fn answer(self) -> Answer {
-        match self {
+    // The answer, or the check that refuses the settings.
+    #[tactic(auto, using(crate::proofs::Laws::refused_new), unfolding(crate::specs::Answers::answer_of))]
+    pub fn answer(self) -> Result<Answer, Check>
+        ensures { said result ≡ answer_of self }
+    {
+        Ok(match self {
             Request::Later { t, d } => Answer::Number(time::later(t, d)),
             Request::Since { now, t } => Answer::Number(time::since(now, t)),
             Request::Backoff {
@@ -67,51 +58,34 @@ impl Request {
                 gap,
             } => Answer::Made(Schedule::probes(first, count, end, gap)),
             Request::Take { ladder, now } => Answer::Step(take(ladder, now)),
-            Request::Check(cfg) => Answer::Place(settings::place(cfg)),
+            Request::Check(cfg) => Answer::Failed(settings::accept(cfg).err()),
             Request::Hold { silence, cfg } => Answer::Hold(params::with_hold(cfg, silence).hold),
-            Request::Wait { abandons, cfg } => wait(abandons, cfg),
-            Request::Params(cfg) => derive_all(cfg),
-        }
+            Request::Wait { abandons, cfg } => Answer::Number(wait(abandons, cfg)?),
+            Request::Params(cfg) => Answer::Derived(Params::new(cfg)?),
+        })
     }
 }
 
-fn take(ladder: Ladder, now: u64) -> Step {
-    let (moved, got) = ladder.take(now);
+fn take(ladder: Ladder, now: u64) -> Step
+    ensures next { when_of result.next_at ≡ next_at_of ladder }
+    ensures due { result.due ≡ due_of ladder now }
+    ensures took { took_of result.left result.taken ≡ take_of ladder now }
+{
+    let (_, next_at) = ladder.next_at();
+    let (_, due) = ladder.due(now);
+    let (left, taken) = ladder.take(now);
     Step {
-        next_at: ladder.next_at().1,
-        due: ladder.due(now).1,
-        any: got.is_some(),
-        send: got.is_some_and(|t| t.send),
-        latest: got.map_or(0, |t| t.latest),
-        last: moved.sched.len <= moved.next,
-        next: moved.next,
-        taken: got.map_or(0, |t| t.taken),
+        next_at,
+        due,
+        taken,
+        left,
     }
 }
 
-fn wait(abandons: u8, cfg: Config) -> Answer {
-    match settings::accept(cfg) {
-        Ok(()) => Answer::Number(params::backoff(cfg, abandons)),
-        Err(check) => Answer::Refused(check),
-    }
-}
-
-fn derive_all(cfg: Config) -> Answer {
-    match settings::accept(cfg) {
-        Ok(()) => Answer::Derived(Derived {
-            confirm: params::confirm(cfg),
-            span: params::span(cfg),
-            grace: params::grace(cfg),
-            rung: params::rung(cfg),
-            gap: params::gap(cfg),
-            budget: params::budget(cfg),
-            first: params::first(cfg),
-            fin: params::fin(cfg).sched,
-            probes: params::probes(cfg),
-            revert: params::revert(cfg).sched,
-            elicit: params::elicit(cfg).sched,
-            delayed: params::delayed(cfg).sched,
-        }),
-        Err(check) => Answer::Refused(check),
-    }
+// The backoff of settings that every check accepts.
+fn wait(abandons: u8, cfg: Config) -> Result<u64, Check>
+    ensures { MatchResult result (λ n. (place_of cfg ≡ 0) × (n ≡ backoff_of (abandons - 1) cfg.check cfg.hold)) (λ c. check_place c ≡ place_of cfg) }
+{
+    settings::accept(cfg)?;
+    Ok(params::backoff(cfg, abandons))
 }

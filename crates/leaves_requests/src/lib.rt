@@ -5,5 +5,5 @@
 mod answers;
 mod requests;
 
-pub use answers::{Answer, Derived, Step};
+pub use answers::{Answer, Step};
 pub use requests::Request;

@@ -1,7 +1,13 @@
 // The requests, each read by its word and its fields.
-use ladder::{Ladder, MAX_COUNT, MAX_RUNGS, Schedule};
+ghost use Rattle.std.specs.Prelude.{◌≡◌, IfOk, IfSome, Ok, true};
+ghost use Rattle.text.specs.Scans.{accept_at, end_at};
+ghost use Rattle.leaves_requests.specs.Words.{word_of, name_of};
+
+use ladder::{Ladder, MAX_LEN, MAX_RUNGS, Schedule};
 use settings::Config;
 use text::{Fault, Scan};
+use text_form::{Reader, Slot};
+use text_records::Record;
 
 #[derive(Clone, Copy)]
 pub enum Request {
@@ -57,126 +63,157 @@ pub enum Request {
     Params(Config),
 }
 
+// Which request a line is.
+#[derive(Clone, Copy, PartialEq, Eq)]
+enum Word {
+    Later,
+    Since,
+    Backoff,
+    Span,
+    Doubling,
+    Probes,
+    Take,
+    Check,
+    Hold,
+    Wait,
+    Params,
+}
+
+static WORDS: [(&[u8], Word); 11] = [
+    (b"later", Word::Later),
+    (b"since", Word::Since),
+    (b"backoff", Word::Backoff),
+    (b"span", Word::Span),
+    (b"doubling", Word::Doubling),
+    (b"probes", Word::Probes),
+    (b"take", Word::Take),
+    (b"check", Word::Check),
+    (b"hold", Word::Hold),
+    (b"wait", Word::Wait),
+    (b"params", Word::Params),
+];
+
 impl Request {
-    // Reads a line that is one request.
-    pub fn read(scan: &mut Scan<'_>) -> Result<Request, Fault> {
-        let request = read_request(scan)?;
+    // Reads a line that is one request. After a fault the scan stands at the field at fault.
+    pub fn read(scan: &mut Scan<'_>) -> Result<Request, Fault>
+        ensures line { scan.new.line ≡ scan.old.line }
+        ensures named { IfOk result (λ r. accept_at scan.old.line.now scan.old.at (name_of (word_of r)) ≡ true) }
+        ensures whole { IfOk result (λ _. end_at scan.old.line.now scan.new.at ≡ Ok tt) }
+    {
+        let word = Word::read(scan).ok_or(Fault::NotWord)?;
+        let mut reader = Reader::by_place(*scan);
+        let read = read_fields(&mut reader, word);
+        scan.at = reader.scan.at;
+        let request = read?;
         scan.end()?;
         Ok(request)
     }
 }
 
-fn read_request(scan: &mut Scan<'_>) -> Result<Request, Fault> {
-    if scan.accept(b"later") {
-        let [t, d] = numbers::<2>(scan)?;
-        return Ok(Request::Later { t, d });
+impl Word {
+    // The word that the next field of a line is.
+    fn read(scan: &mut Scan<'_>) -> Option<Word>
+        ensures line { scan.new.line ≡ scan.old.line }
+        ensures named { IfSome result (λ w. accept_at scan.old.line.now scan.old.at (name_of w) ≡ true) }
+    {
+        scan.entry(&WORDS)
     }
-    if scan.accept(b"since") {
-        let [now, t] = numbers::<2>(scan)?;
-        return Ok(Request::Since { now, t });
-    }
-    if scan.accept(b"backoff") {
-        let exponent = word(scan)?;
-        let [base, cap] = numbers::<2>(scan)?;
-        return Ok(Request::Backoff {
-            exponent,
-            base,
-            cap,
-        });
-    }
-    if scan.accept(b"span") {
-        return Ok(Request::Span(byte(scan)?));
-    }
-    read_schedule(scan)
 }
 
-fn read_schedule(scan: &mut Scan<'_>) -> Result<Request, Fault> {
-    if scan.accept(b"doubling") {
-        let first = number(scan)?;
-        let count = byte(scan)?;
-        let end = scan.optional()?;
-        return Ok(Request::Doubling { first, count, end });
+// Reads what stands behind the word of a request.
+fn read_fields(reader: &mut Reader<'_>, word: Word) -> Result<Request, Fault>
+    ensures { IfOk result (λ r. word_of r ≡ word) }
+{
+    match word {
+        Word::Later => {
+            let [t, d] = numbers::<2>(reader)?;
+            Ok(Request::Later { t, d })
+        }
+        Word::Since => {
+            let [now, t] = numbers::<2>(reader)?;
+            Ok(Request::Since { now, t })
+        }
+        Word::Backoff => {
+            let exponent = exponent(reader)?;
+            let [base, cap] = numbers::<2>(reader)?;
+            Ok(Request::Backoff {
+                exponent,
+                base,
+                cap,
+            })
+        }
+        Word::Span => Ok(Request::Span(byte(reader)?)),
+        Word::Doubling => {
+            let first = number(reader)?;
+            let count = byte(reader)?;
+            let end = reader.optional(u64::MAX)?;
+            Ok(Request::Doubling { first, count, end })
+        }
+        Word::Probes => {
+            let first = number(reader)?;
+            let count = byte(reader)?;
+            let [end, gap] = numbers::<2>(reader)?;
+            Ok(Request::Probes {
+                first,
+                count,
+                end,
+                gap,
+            })
+        }
+        Word::Take => {
+            let ladder = read_ladder(reader)?;
+            let now = number(reader)?;
+            Ok(Request::Take { ladder, now })
+        }
+        Word::Check => Ok(Request::Check(config(reader)?)),
+        Word::Hold => {
+            let silence = number(reader)?;
+            let cfg = config(reader)?;
+            Ok(Request::Hold { silence, cfg })
+        }
+        Word::Wait => {
+            let abandons = byte(reader)?;
+            let cfg = config(reader)?;
+            Ok(Request::Wait { abandons, cfg })
+        }
+        Word::Params => Ok(Request::Params(config(reader)?)),
     }
-    if scan.accept(b"probes") {
-        let first = number(scan)?;
-        let count = byte(scan)?;
-        let [end, gap] = numbers::<2>(scan)?;
-        return Ok(Request::Probes {
-            first,
-            count,
-            end,
-            gap,
-        });
-    }
-    if scan.accept(b"take") {
-        let ladder = read_ladder(scan)?;
-        let now = number(scan)?;
-        return Ok(Request::Take { ladder, now });
-    }
-    read_settings(scan)
 }
 
-fn read_settings(scan: &mut Scan<'_>) -> Result<Request, Fault> {
-    if scan.accept(b"check") {
-        return Ok(Request::Check(config(scan)?));
-    }
-    if scan.accept(b"hold") {
-        let silence = number(scan)?;
-        let cfg = config(scan)?;
-        return Ok(Request::Hold { silence, cfg });
-    }
-    if scan.accept(b"wait") {
-        let abandons = byte(scan)?;
-        let cfg = config(scan)?;
-        return Ok(Request::Wait { abandons, cfg });
-    }
-    if scan.accept(b"params") {
-        return Ok(Request::Params(config(scan)?));
-    }
-    Err(Fault::NotWord)
+fn number(reader: &mut Reader<'_>) -> Result<u64, Fault> {
+    reader.number(u64::MAX)
 }
 
-fn number(scan: &mut Scan<'_>) -> Result<u64, Fault> {
-    scan.number(u64::MAX)
-}
-
-fn numbers<const N: usize>(scan: &mut Scan<'_>) -> Result<[u64; N], Fault> {
+fn numbers<const N: usize>(reader: &mut Reader<'_>) -> Result<[u64; N], Fault> {
     let mut all = [0; N];
     for n in all.iter_mut() {
-        *n = number(scan)?;
+        *n = number(reader)?;
     }
     Ok(all)
 }
 
-// A number that fits a narrower type.
-fn byte(scan: &mut Scan<'_>) -> Result<u8, Fault> {
-    let n = scan.number(u8::MAX as u64)?;
-    Ok(u8::try_from(n).unwrap_or(u8::MAX))
+// Numbers that fit a narrower type.
+fn byte(reader: &mut Reader<'_>) -> Result<u8, Fault> {
+    let mut n = 0;
+    reader.read(Slot::Byte(&mut n, u8::MAX))?;
+    Ok(n)
 }
 
-fn half(scan: &mut Scan<'_>) -> Result<u16, Fault> {
-    let n = scan.number(u16::MAX as u64)?;
-    Ok(u16::try_from(n).unwrap_or(u16::MAX))
-}
-
-fn word(scan: &mut Scan<'_>) -> Result<u32, Fault> {
-    let n = scan.number(u32::MAX as u64)?;
+fn exponent(reader: &mut Reader<'_>) -> Result<u32, Fault> {
+    let n = reader.number(u32::MAX as u64)?;
     Ok(u32::try_from(n).unwrap_or(u32::MAX))
 }
 
-fn flag(scan: &mut Scan<'_>) -> Result<bool, Fault> {
-    Ok(scan.number(1)? == 1)
-}
-
-fn read_ladder(scan: &mut Scan<'_>) -> Result<Ladder, Fault> {
-    let origin = number(scan)?;
-    let next = byte(scan)?;
-    let n = scan.number(MAX_COUNT)?;
-    let len = u8::try_from(n).unwrap_or(u8::MAX);
-    let keepalive = number(scan)?;
+// A ladder. `Slot::Ladder` reads a length that does not fit, and cuts the ladder; here that is a fault.
+fn read_ladder(reader: &mut Reader<'_>) -> Result<Ladder, Fault> {
+    let origin = number(reader)?;
+    let next = byte(reader)?;
+    let mut len = 0;
+    reader.read(Slot::Byte(&mut len, MAX_LEN))?;
+    let keepalive = number(reader)?;
     let mut at = [0; MAX_RUNGS];
     for offset in at.iter_mut().take(usize::from(len)) {
-        *offset = number(scan)?;
+        *offset = number(reader)?;
     }
     let sched = Schedule { at, keepalive, len };
     Ok(Ladder {
@@ -186,47 +223,8 @@ fn read_ladder(scan: &mut Scan<'_>) -> Result<Ladder, Fault> {
     })
 }
 
-fn config(scan: &mut Scan<'_>) -> Result<Config, Fault> {
-    let after = number(scan)?;
-    let jitter = half(scan)?;
-    let [
-        messages,
-        handshake,
-        check,
-        drain,
-        retention,
-        hold,
-        revert,
-        dampening,
-    ] = numbers::<8>(scan)?;
-    let [ttl, young, link_age, session_age, floor_link, floor_session] = numbers::<6>(scan)?;
-    let [floor_cutover, silence] = numbers::<2>(scan)?;
-    let resends = byte(scan)?;
-    let [soft, hard, delay] = numbers::<3>(scan)?;
-    let arrival = flag(scan)?;
-    Ok(Config {
-        after,
-        jitter,
-        messages,
-        handshake,
-        check,
-        drain,
-        retention,
-        hold,
-        revert,
-        dampening,
-        ttl,
-        young,
-        link_age,
-        session_age,
-        floor_link,
-        floor_session,
-        floor_cutover,
-        silence,
-        resends,
-        soft,
-        hard,
-        delay,
-        arrival,
-    })
+fn config(reader: &mut Reader<'_>) -> Result<Config, Fault> {
+    let mut cfg = Config::fmp();
+    cfg.fields(reader)?;
+    Ok(cfg)
 }

@@ -10,21 +10,14 @@ use text_lines::{Input, Output};
 
 const MOST_COUNT: u64 = 255;
 
-// What the line asks for.
+// Which schedule the line asks for.
 #[derive(Clone, Copy)]
 enum Asked {
-    Probes {
-        first: u64,
-        count: u8,
-        end: u64,
-        gap: u64,
-    },
-    Doubling {
-        first: u64,
-        count: u8,
-        end: Option<u64>,
-    },
+    Probes,
+    Doubling,
 }
+
+static WORDS: [(&[u8], Asked); 2] = [(b"probes", Asked::Probes), (b"doubling", Asked::Doubling)];
 
 fn main(rt: HostRuntime) {
     let mut lines = io::large_buffer();
@@ -38,8 +31,8 @@ fn main(rt: HostRuntime) {
 fn run(rt: &impl Eprint, input: &mut Input<'_, impl Read>, out: &mut Output<'_, '_, impl Print>) {
     match input.advance() {
         Ok(true) => {
-            if let Some(asked) = read(rt, input.line()) {
-                if ends(rt, input) && !write(out, made(asked)) {
+            if let Some(made) = read(rt, input.line()) {
+                if ends(rt, input) && !write(out, made) {
                     text_lines::tell(rt, 1, "standard output cannot be written.");
                 }
             }
@@ -50,11 +43,11 @@ fn run(rt: &impl Eprint, input: &mut Input<'_, impl Read>, out: &mut Output<'_, 
 }
 
 // Reads the line, without a carriage return at its end, or tells what is wrong with it.
-fn read(rt: &impl Eprint, line: &[u8]) -> Option<Asked> {
+fn read(rt: &impl Eprint, line: &[u8]) -> Option<Made> {
     let n = text_lines::line_end(line);
     let mut scan = Scan::new(&line[..n]);
-    match read_fields(&mut scan) {
-        Ok(asked) => Some(asked),
+    match read_schedule(&mut scan) {
+        Ok(made) => Some(made),
         Err(fault) => {
             tell_fault(rt, &scan, fault);
             None
@@ -62,39 +55,24 @@ fn read(rt: &impl Eprint, line: &[u8]) -> Option<Asked> {
     }
 }
 
-fn read_fields(scan: &mut Scan<'_>) -> Result<Asked, Fault> {
-    let doubling = scan.word(&[b"probes", b"doubling"])? == 1;
+fn read_schedule(scan: &mut Scan<'_>) -> Result<Made, Fault> {
+    let asked = scan.entry(&WORDS).ok_or(Fault::NotWord)?;
     let first = scan.number(u64::MAX)?;
     let count = u8::try_from(scan.number(MOST_COUNT)?).unwrap_or(u8::MAX);
-    if !doubling {
-        let end = scan.number(u64::MAX)?;
-        let gap = scan.number(u64::MAX)?;
-        scan.end()?;
-        return Ok(Asked::Probes {
-            first,
-            count,
-            end,
-            gap,
-        });
-    }
-    let mut end = None;
-    if scan.end().is_err() {
-        end = Some(scan.number(u64::MAX)?);
-        scan.end()?;
-    }
-    Ok(Asked::Doubling { first, count, end })
-}
-
-fn made(asked: Asked) -> Made {
-    match asked {
-        Asked::Probes {
-            first,
-            count,
-            end,
-            gap,
-        } => Schedule::probes(first, count, end, gap),
-        Asked::Doubling { first, count, end } => Schedule::doubling(first, count, end),
-    }
+    let made = match asked {
+        Asked::Probes => {
+            let end = scan.number(u64::MAX)?;
+            let gap = scan.number(u64::MAX)?;
+            Schedule::probes(first, count, end, gap)
+        }
+        Asked::Doubling if scan.end().is_ok() => Schedule::doubling(first, count, None),
+        Asked::Doubling => {
+            let end = scan.number(u64::MAX)?;
+            Schedule::doubling(first, count, Some(end))
+        }
+    };
+    scan.end()?;
+    Ok(made)
 }
 
 // Whether nothing but empty lines follows the first line; else it is told.
@@ -145,11 +123,11 @@ fn write(out: &mut Output<'_, '_, impl Print>, made: Made) -> bool {
     for (i, offset) in sched.at.iter().take(sched.rungs()).enumerate() {
         out.number(i as u64);
         out.bytes(kind(sched.keepalive, i));
-        out.number(*offset);
+        out.spaced(*offset);
         out.bytes(b"\n");
     }
-    out.bytes(b"dropped ");
-    out.number(u64::from(made.dropped));
+    out.bytes(b"dropped");
+    out.spaced(u64::from(made.dropped));
     out.bytes(b"\n");
     out.flush()
 }
@@ -157,8 +135,8 @@ fn write(out: &mut Output<'_, '_, impl Print>, made: Made) -> bool {
 // Bit `i` of `map` is set where rung `i` is a keepalive.
 fn kind(map: u64, i: usize) -> &'static [u8] {
     if i < 64 && (map >> (i as u64)) % 2 == 1 {
-        b" keepalive "
+        b" keepalive"
     } else {
-        b" send "
+        b" send"
     }
 }
