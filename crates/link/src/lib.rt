@@ -1,6 +1,6 @@
 // The calls of a link, as crate link_c exports them for Rust and C: each is the proved call and promises what
 // that call promises. Records cross by value, laid out as C does; no enum crosses; the log and a frame's two
-// buffers are lent.
+// buffers are lent. The arguments are those of C's calls, one each.
 #![tactic(auto)]
 
 ghost use Rattle.std.specs.Prelude.{◌≡◌, []};
@@ -267,10 +267,7 @@ pub fn siklyavon_status(s: State, cfg: Config, p: Profile, time: u64) -> Shown
 pub fn siklyavon_quiet(s: &State, g: Given, spread: i32) -> bool
     ensures { Tells s.now g spread result }
 {
-    if link_quiet::first_busy(s, g, spread) {
-        return false;
-    }
-    link_quiet::alone(s) || link_quiet::other_still(s, g)
+    !link_quiet::first_busy(s, g, spread) && (link_quiet::alone(s) || link_quiet::other_still(s, g))
 }
 
 // A sample of the record, for the caller's layout.

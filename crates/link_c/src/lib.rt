@@ -1,7 +1,7 @@
 // The calls of crate link under the same names, exported for Rust and C: each promises what the function that it
 // calls promises, word for word. Records cross by value, laid out as C does; no enum crosses; the log and a
-// frame's two buffers are lent. The two stand apart since a program of Rattle takes crate link, and a
-// static library exports what its own crate defines.
+// frame's two buffers are lent. The C interface needs both crates: a static library exports what its own crate
+// defines, and no crate can depend on one, so what crates of Rattle can call stands in crate link.
 #![tactic(auto)]
 
 ghost use Rattle.std.specs.Prelude.{◌≡◌, []};

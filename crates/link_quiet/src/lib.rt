@@ -5,8 +5,9 @@
 // and the candidates, and then the cycle and the drained epoch.
 //
 // What wake tells as instants is told here as tests, so that the first that holds ends them and the
-// candidates are gone over once. By `wake::quiet`, while that took the state by value, the whole test
-// took 96, 165 and 155 ns on the idle loads of docs/BENCHMARK.md, where this took 27, 49 and 60.
+// candidates are gone over once. Tried without this crate: `refusal::before_poll` and then `wake::quiet`,
+// both by reference, take 63, 100 and 127 ns on the idle loads of docs/BENCHMARK.md. This takes 47, 78 and
+// 99; the bar is what the older form took, 45, 87 and 134, and a poll of the published Rust takes 42, 70 and 75.
 #![tactic(auto)]
 
 ghost use Rattle.std.specs.Prelude.{◌≤◌, ◌<◌, not, ◌||◌, ◌≡◌};
@@ -94,7 +95,8 @@ fn each(v: &Candidates, time: u64) -> bool
     v.earliest().is_some_and(|t| t <= time) || v.repeats()
 }
 
-// The same of one to 32 candidates, in one pass where the numbers rise, as arrival numbers do.
+// The same of one to 32 candidates, in one pass where the numbers rise, as arrival numbers do. It goes by place: a
+// candidate is one place of two arrays, since C holds the state, and a zip of slices would name both and their bounds.
 fn both(v: &Candidates, time: u64) -> bool
     requires { (0 < v.now.len) × (v.now.len ≤ 32) }
     ensures { result ≡ (reached_of (earliest_of (firsts v.now.len v.now.deadline)) time || repeated (firsts v.now.len v.now.seq)) }
@@ -163,10 +165,9 @@ fn current_busy(s: &State, g: Given) -> bool
 fn asked_back(g: Given, spread: i32) -> bool
     ensures { result ≡ asked_back g.cfg g.profile spread g.extra }
 {
-    if settings::accept(g.cfg).is_err() {
-        return true;
-    }
-    refusal::profile_bad(g.profile) || refusal::draws_bad(g.cfg.jitter, spread, g.extra)
+    settings::accept(g.cfg).is_err()
+        || refusal::profile_bad(g.profile)
+        || refusal::draws_bad(g.cfg.jitter, spread, g.extra)
 }
 
 // Whether what the call is given, the current epoch or a candidate keeps a poll from being quiet.

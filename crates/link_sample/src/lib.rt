@@ -1,5 +1,8 @@
 // A sample of each record that crosses to Rust, every field with a number or a flag of its own
 // within its record: a caller that lays a record out differently reads something else.
+//
+// Each record is written out, field by field: the numbers of its fields are all there is to say, and one function
+// for several records would give each field of each of them as an argument.
 #![tactic(auto)]
 
 ghost use Rattle.std.specs.Prelude.{◌≡◌};
@@ -19,7 +22,7 @@ use state::{Bit, Given, Memory, Profile, State};
 use time::When;
 
 #[tactic(auto, unfolding(crate::specs::Sample::rungs_of))]
-pub fn rungs() -> Ladder
+fn rungs() -> Ladder
     ensures { result ≡ rungs_of }
 {
     let sched = Schedule {
@@ -35,7 +38,7 @@ pub fn rungs() -> Ladder
 }
 
 #[tactic(auto, unfolding(crate::specs::Sample::last_of))]
-pub fn last() -> Final
+fn last() -> Final
     ensures { result ≡ last_of }
 {
     Final {
@@ -46,7 +49,7 @@ pub fn last() -> Final
 }
 
 #[tactic(auto, unfolding(crate::specs::Sample::repeats_of))]
-pub fn repeats() -> MayLadder
+fn repeats() -> MayLadder
     ensures { result ≡ repeats_of }
 {
     MayLadder {
@@ -56,7 +59,7 @@ pub fn repeats() -> MayLadder
 }
 
 #[tactic(auto, unfolding(crate::specs::Sample::keys_of))]
-pub fn keys() -> Epoch
+fn keys() -> Epoch
     ensures { result ≡ keys_of }
 {
     let ids = Ids {
@@ -93,7 +96,7 @@ pub fn keys() -> Epoch
 }
 
 #[tactic(auto, unfolding(crate::specs::Sample::held_of))]
-pub fn held() -> MayEpoch
+fn held() -> MayEpoch
     ensures { result ≡ held_of }
 {
     MayEpoch {
@@ -103,7 +106,7 @@ pub fn held() -> MayEpoch
 }
 
 #[tactic(auto, unfolding(crate::specs::Sample::kept_of))]
-pub fn kept() -> Drain
+fn kept() -> Drain
     ensures { result ≡ kept_of }
 {
     Drain {
@@ -115,7 +118,7 @@ pub fn kept() -> Drain
 }
 
 #[tactic(auto, unfolding(crate::specs::Sample::own_of))]
-pub fn own() -> Attempt
+fn own() -> Attempt
     ensures { result ≡ own_of }
 {
     Attempt {
@@ -134,7 +137,7 @@ pub fn own() -> Attempt
 }
 
 #[tactic(auto, unfolding(crate::specs::Sample::ready_of))]
-pub fn ready() -> PendI
+fn ready() -> PendI
     ensures { result ≡ ready_of }
 {
     PendI {
@@ -151,7 +154,7 @@ pub fn ready() -> PendI
 }
 
 #[tactic(auto, unfolding(crate::specs::Sample::theirs_of))]
-pub fn theirs() -> PendR
+fn theirs() -> PendR
     ensures { result ≡ theirs_of }
 {
     PendR {
@@ -163,7 +166,7 @@ pub fn theirs() -> PendR
 }
 
 #[tactic(auto, unfolding(crate::specs::Sample::turn_of))]
-pub fn turn() -> Cycle
+fn turn() -> Cycle
     ensures { result ≡ turn_of }
 {
     Cycle {
@@ -175,7 +178,7 @@ pub fn turn() -> Cycle
 }
 
 #[tactic(auto, unfolding(crate::specs::Sample::waiting_of))]
-pub fn waiting() -> Candidates
+fn waiting() -> Candidates
     ensures { result ≡ waiting_of }
 {
     Candidates {
@@ -195,7 +198,7 @@ pub fn waiting() -> Candidates
 }
 
 #[tactic(auto, unfolding(crate::specs::Sample::facts_of))]
-pub fn facts(spread: i32) -> Memory
+fn facts(spread: i32) -> Memory
     ensures { result ≡ facts_of spread }
 {
     Memory {
