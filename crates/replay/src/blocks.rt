@@ -8,11 +8,11 @@ use text_words::Call;
 
 // Its kind, and what its lines have given so far; none stands before the first.
 #[derive(Drop)]
-pub struct Block<'a> {
-    pub kind: Kind,
-    pub cfg: Option<Config>,
-    pub profile: Option<Profile>,
-    pub state: Option<State>,
+pub(crate) struct Block<'a> {
+    pub(crate) kind: Kind,
+    pub(crate) cfg: Option<Config>,
+    pub(crate) profile: Option<Profile>,
+    pub(crate) state: Option<State>,
     // The line of a state that claims more than a state holds stands at the front of `kept`, and this is
     // its length: every call but `open` leaves such a state.
     claim: Option<usize>,
@@ -22,13 +22,13 @@ pub struct Block<'a> {
 
 // What a call needs and no line has given: settings and a profile, or a state.
 #[derive(Clone, Copy)]
-pub enum Early {
+pub(crate) enum Early {
     Given,
     State,
 }
 
 impl<'a> Block<'a> {
-    pub fn new(kept: &'a mut [u8]) -> Block<'a> {
+    pub(crate) fn new(kept: &'a mut [u8]) -> Block<'a> {
         Block {
             kind: Kind::Vector,
             cfg: None,
@@ -40,7 +40,7 @@ impl<'a> Block<'a> {
     }
 
     // The next block.
-    pub fn begin(&mut self, kind: Kind) {
+    pub(crate) fn begin(&mut self, kind: Kind) {
         self.kind = kind;
         self.cfg = None;
         self.profile = None;
@@ -49,7 +49,7 @@ impl<'a> Block<'a> {
     }
 
     // The end of a block: a run's end state.
-    pub fn close(&self, out: &mut Output<'_, '_, impl Print>) {
+    pub(crate) fn close(&self, out: &mut Output<'_, '_, impl Print>) {
         let Some(state) = &self.state else {
             return;
         };
@@ -63,7 +63,7 @@ impl<'a> Block<'a> {
     }
 
     // A state line that was read; one that claims too much is kept.
-    pub fn give(&mut self, state: State, line: &[u8], claims: bool) {
+    pub(crate) fn give(&mut self, state: State, line: &[u8], claims: bool) {
         self.state = Some(state);
         self.claim = None;
         if claims {
@@ -73,7 +73,7 @@ impl<'a> Block<'a> {
     }
 
     // The link for a call: every call needs settings and a profile, and each but `open` a state.
-    pub fn link(&self, call: Call) -> Result<Link, Early> {
+    pub(crate) fn link(&self, call: Call) -> Result<Link, Early> {
         let cfg = self.cfg.ok_or(Early::Given)?;
         let profile = self.profile.ok_or(Early::Given)?;
         let state = match self.state {
@@ -89,7 +89,7 @@ impl<'a> Block<'a> {
     }
 
     // The block after a call that left a state: a run goes on with it.
-    pub fn settle(&mut self, call: Call, left: State) {
+    pub(crate) fn settle(&mut self, call: Call, left: State) {
         if self.kind == Kind::Vector {
             return;
         }

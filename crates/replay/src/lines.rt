@@ -52,21 +52,15 @@ impl From<Early> for Wrong {
 impl Line {
     // The line that the next field names.
     fn read(scan: &mut Scan<'_>) -> Option<Line> {
-        if let Some(call) = Call::read(scan) {
-            return Some(Line::Call(call));
-        }
-        for (word, line) in &LINES {
-            if scan.accept(word) {
-                return Some(*line);
-            }
-        }
-        None
+        Call::read(scan)
+            .map(Line::Call)
+            .or_else(|| scan.entry(&LINES))
     }
 }
 
 // Writes a line and its answers, unless it is an answer itself, and answers whether to go on. Where it
 // does not read it is told; what was answered before it is written out first.
-pub fn respond(
+pub(crate) fn respond(
     out: &mut Output<'_, '_, impl Print + Eprint>,
     block: &mut Block<'_>,
     given: &[u8],

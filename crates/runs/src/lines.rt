@@ -1,5 +1,5 @@
 // Lines, one after another.
-use crate::faults;
+use crate::faults::{self, Refused};
 use crate::session::Session;
 use numbers::slot::Slot;
 use numbers::wait::Wait;
@@ -14,7 +14,7 @@ use text_words::Call;
 
 // What a line is: a call, or one that names fields, or another.
 #[derive(Clone, Copy)]
-pub enum Line {
+pub(crate) enum Line {
     Call(Call),
     Part(Part),
     Explain,
@@ -23,7 +23,7 @@ pub enum Line {
 }
 
 // The lines that are no calls, by their words.
-pub static LINES: [(&[u8], Line); 11] = [
+pub(crate) static LINES: [(&[u8], Line); 11] = [
     (b"set", Line::Part(Part::Settings)),
     (b"profile", Line::Part(Part::Profile)),
     (b"explain", Line::Explain),
@@ -39,7 +39,7 @@ pub static LINES: [(&[u8], Line); 11] = [
 
 // What is wrong with a line: the field at which it stopped, or that the link there cannot take it.
 #[derive(Clone, Copy)]
-pub enum Wrong {
+pub(crate) enum Wrong {
     At(Fault),
     NoLink,
     NoCurrent,
@@ -55,21 +55,15 @@ impl From<Fault> for Wrong {
 impl Line {
     // The line that the next field names.
     fn read(scan: &mut Scan<'_>) -> Option<Line> {
-        if let Some(call) = Call::read(scan) {
-            return Some(Line::Call(call));
-        }
-        for (word, line) in &LINES {
-            if scan.accept(word) {
-                return Some(*line);
-            }
-        }
-        None
+        Call::read(scan)
+            .map(Line::Call)
+            .or_else(|| scan.entry(&LINES))
     }
 }
 
 // Reads and answers a line, and answers whether to go on. Empty lines, and those that begin with `#`,
 // are passed over. What was answered before a line that is refused is written out first.
-pub fn respond(
+pub(crate) fn respond(
     out: &mut Output<'_, '_, impl Print + Eprint>,
     session: &mut Session,
     given: &[u8],
@@ -90,7 +84,12 @@ pub fn respond(
         Ok(()) => text_lines::written(out, number),
         Err(wrong) => {
             text_lines::finish(out, number);
-            faults::tell(out.rt, number, kind, &named.reader, wrong);
+            let refused = Refused {
+                rt: out.rt,
+                number,
+                reader: &named.reader,
+            };
+            refused.tell(kind, wrong);
             false
         }
     }

@@ -11,19 +11,19 @@ use text_words::Call;
 // the instant of the last; the latest instant since the link was opened or given; and whether lines are
 // explained.
 #[derive(Clone, Copy)]
-pub struct Session {
-    pub cfg: Config,
-    pub profile: Profile,
-    pub state: Option<State>,
-    pub calls: u64,
-    pub time: u64,
-    pub latest: u64,
-    pub explain: bool,
+pub(crate) struct Session {
+    pub(crate) cfg: Config,
+    pub(crate) profile: Profile,
+    pub(crate) state: Option<State>,
+    pub(crate) calls: u64,
+    pub(crate) time: u64,
+    pub(crate) latest: u64,
+    pub(crate) explain: bool,
 }
 
 impl Session {
     // The settings of a link that names no others, two messages, and all else off or 0.
-    pub fn new() -> Session {
+    pub(crate) fn new() -> Session {
         Session {
             cfg: Config::fmp(),
             profile: text_records::plain_profile(),
@@ -36,7 +36,7 @@ impl Session {
     }
 
     // The link; before one is there, with a state of which no call reads anything.
-    pub fn link(&self) -> Link {
+    pub(crate) fn link(&self) -> Link {
         Link {
             state: self.state.unwrap_or_else(text_records::blank_state),
             cfg: self.cfg,
@@ -46,7 +46,7 @@ impl Session {
 
     // Counts a call at `now`, and answers the latest instant where that lies after `now`. An `open`
     // begins anew.
-    pub fn count(&mut self, call: Call, now: u64) -> Option<u64> {
+    pub(crate) fn count(&mut self, call: Call, now: u64) -> Option<u64> {
         let latest = self.latest;
         self.calls = self.calls.saturating_add(1);
         self.time = now;
@@ -59,7 +59,7 @@ impl Session {
     }
 
     // What stands before each line of the call that was counted last.
-    pub fn head(&self) -> Head {
+    pub(crate) fn head(&self) -> Head {
         Head {
             call: self.calls,
             time: self.time,
@@ -68,7 +68,7 @@ impl Session {
     }
 
     // The tag of the epoch in a slot, 0 where no link is there.
-    pub fn tag(&self, slot: Slot) -> u64 {
+    pub(crate) fn tag(&self, slot: Slot) -> u64 {
         match &self.state {
             Some(state) => tag_of(state, slot),
             None => 0,
