@@ -2,11 +2,11 @@
 // middle of a link's life. No function has a `requires`.
 #![tactic(auto)]
 
-ghost use Rattle.std.specs.Prelude.{◌≡◌};
+ghost use Rattle.std.specs.Prelude.{◌≡◌, false, eqb};
 ghost use Rattle.numbers.specs.Cases.{wait_no};
 ghost use Rattle.time.specs.Time.{later_of, sat_add};
 ghost use Rattle.state.specs.Parts.{put_cycle, put_drain, put_cands};
-ghost use Rattle.runs_placing.specs.Placed.{completed, answered, kept, kept_until, added};
+ghost use Rattle.runs_placing.specs.Placed.{completed, answered, wait_until, kept, kept_until, added};
 
 use candidates::Candidates;
 use cycle::{Cycle, PendI, PendR};
@@ -24,6 +24,7 @@ use time::When;
 pub fn pendi(link: &Link, now: u64, wait: Wait) -> State
     ensures placed { result ≡ put_cycle link.now.state (completed link.now.state.cycle result.cycle.pendi) }
     ensures wait { result.cycle.pendi.wait ≡ wait_no wait }
+    ensures deadline { result.cycle.pendi.deadline ≡ wait_until link.now now wait }
     ensures tag { result.cycle.pendi.ep.tag ≡ sat_add link.now.state.cur.ep.tag 1 }
     ensures started { result.cycle.pendi.ep.started ≡ now }
 {
@@ -67,7 +68,10 @@ fn own_epoch(state: &State, now: u64, wait: Wait) -> Epoch
 }
 
 // When the wait ends: at once, with the confirmation window, or after the delay.
-fn wait_end(link: &Link, now: u64, wait: Wait) -> u64 {
+#[tactic(auto, using(time::proofs::Std::std_words), unfolding(crate::specs::Placed::wait_until))]
+fn wait_end(link: &Link, now: u64, wait: Wait) -> u64
+    ensures { result ≡ wait_until link.now now wait }
+{
     match wait {
         Wait::Held => now,
         Wait::Evidence => time::later(now, params::confirm(link.cfg)),
@@ -132,6 +136,8 @@ pub fn pendr(link: &Link, now: u64) -> State
 #[tactic(auto, unfolding(crate::specs::Placed::kept, crate::specs::Placed::kept_until))]
 pub fn drained(link: &Link, now: u64, evidenced: bool) -> State
     ensures placed { result ≡ put_drain link.now.state (kept result.drain.ep (kept_until link.now.cfg now evidenced) evidenced) }
+    ensures tag { eqb result.drain.ep.tag link.now.state.cur.ep.tag ≡ false }
+    ensures dropped { (result.drain.ep.fin.some ≡ false) × (result.drain.ep.elicit.some ≡ false) }
 {
     let cfg = &link.cfg;
     let cur = &link.state.cur.ep;
@@ -155,7 +161,9 @@ pub fn drained(link: &Link, now: u64, evidenced: bool) -> State
 }
 
 // A tag that is not the current one.
-fn before(tag: u64) -> u64 {
+fn before(tag: u64) -> u64
+    ensures { eqb result tag ≡ false }
+{
     tag.checked_sub(1).unwrap_or(1)
 }
 
