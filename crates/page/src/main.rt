@@ -22,6 +22,8 @@ fn main(rt: HostRuntime) {
     filter(&rt, &mut rt.stdin(), &mut buf, &mut room);
 }
 
+// A loop of its own, as runs has one: here nothing is told on standard error, and the rows that are left
+// are told at the end.
 fn filter(rt: &impl Print, from: &mut impl Read, buf: &mut [u8], room: &mut [u8]) {
     let mut input = Input::new(from, buf);
     let mut out = Output::new(rt, room);

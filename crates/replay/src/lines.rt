@@ -6,6 +6,7 @@ use text::{Fault, Scan};
 use text_args::ARGS;
 use text_form::{Names, Reader};
 use text_lines::Output;
+use text_records::Record;
 use text_words::{CALLS, Call};
 
 // The longest buffer of a frame.
@@ -59,7 +60,8 @@ impl Line {
 }
 
 // Writes a line and its answers, unless it is an answer itself, and answers whether to go on. Where it
-// does not read it is told; what was answered before it is written out first.
+// does not read it is told; what was answered before it is written out first. The end is that of runs: a
+// common one would take the telling as a closure, and be no shorter.
 pub(crate) fn respond(
     out: &mut Output<'_, '_, impl Print + Eprint>,
     block: &mut Block<'_>,
@@ -96,8 +98,8 @@ fn take(
 ) -> Result<(), Wrong> {
     match kind {
         Line::Begin(kind) => begin(out, block, kind, reader)?,
-        Line::Settings => cfg(block, reader)?,
-        Line::Profile => profile(block, reader)?,
+        Line::Settings => block.cfg = Some(record(Config::fmp(), reader)?),
+        Line::Profile => block.profile = Some(record(text_records::plain_profile(), reader)?),
         Line::State => state(block, line, reader)?,
         Line::Call(Call::Frame) => return frame(out, block, line, reader),
         Line::Call(call) => return other(out, block, call, line, reader),
@@ -125,18 +127,10 @@ fn begin(
     Ok(())
 }
 
-fn cfg(block: &mut Block<'_>, reader: &mut Reader<'_>) -> Result<(), Fault> {
-    let mut cfg = Config::fmp();
-    text_records::read_record(reader, &mut cfg)?;
-    block.cfg = Some(cfg);
-    Ok(())
-}
-
-fn profile(block: &mut Block<'_>, reader: &mut Reader<'_>) -> Result<(), Fault> {
-    let mut profile = text_records::plain_profile();
-    text_records::read_record(reader, &mut profile)?;
-    block.profile = Some(profile);
-    Ok(())
+// The settings or the profile. The line gives every field of the record.
+fn record<R: Record + Copy>(mut r: R, reader: &mut Reader<'_>) -> Result<R, Fault> {
+    text_records::read_record(reader, &mut r)?;
+    Ok(r)
 }
 
 fn state(block: &mut Block<'_>, line: &[u8], reader: &mut Reader<'_>) -> Result<(), Fault> {

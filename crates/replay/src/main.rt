@@ -43,6 +43,7 @@ fn named(rt: &impl Runtime, i: usize, buf: &mut [u8], out: &mut [u8], kept: &mut
     }
 }
 
+// A loop of its own, as runs has one: here the end of the lists ends a block, and nothing is written first.
 fn filter(
     rt: &(impl Print + Eprint),
     from: &mut impl Read,

@@ -9,7 +9,7 @@ use text_args::ARGS;
 use text_calls::{Link, place};
 use text_form::{Named, Reader};
 use text_lines::Output;
-use text_records::Part;
+use text_records::{Part, Record};
 use text_words::Call;
 
 // What a line is: a call, or one that names fields, or another.
@@ -62,7 +62,8 @@ impl Line {
 }
 
 // Reads and answers a line, and answers whether to go on. Empty lines, and those that begin with `#`,
-// are passed over. What was answered before a line that is refused is written out first.
+// are passed over. What was answered before a line that is refused is written out first. The end is
+// that of replay: a common one would take the telling as a closure, and be no shorter.
 pub(crate) fn respond(
     out: &mut Output<'_, '_, impl Print + Eprint>,
     session: &mut Session,
@@ -104,8 +105,8 @@ fn take(
 ) -> Result<(), Wrong> {
     match line {
         Line::Call(call) => call_line(out, session, call, named, number),
-        Line::Part(Part::Settings) => set(session, named),
-        Line::Part(Part::Profile) => profile(session, named),
+        Line::Part(Part::Settings) => set(&mut session.cfg, named),
+        Line::Part(Part::Profile) => set(&mut session.profile, named),
         Line::Part(part) => change(session, part, named),
         Line::Explain => explain(session, named),
         Line::State => given(session, named),
@@ -113,15 +114,10 @@ fn take(
     }
 }
 
-fn set(session: &mut Session, named: &mut Named<'_>) -> Result<(), Wrong> {
+// `set NAME N ..` and `profile NAME N ..`
+fn set<R: Record>(r: &mut R, named: &mut Named<'_>) -> Result<(), Wrong> {
     some(named)?;
-    text_records::name_record(named, &mut session.cfg)?;
-    Ok(())
-}
-
-fn profile(session: &mut Session, named: &mut Named<'_>) -> Result<(), Wrong> {
-    some(named)?;
-    text_records::name_record(named, &mut session.profile)?;
+    text_records::name_record(named, r)?;
     Ok(())
 }
 

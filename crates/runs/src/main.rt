@@ -57,6 +57,8 @@ docs/RUNS.md has every name, docs/EVENTS.md what each event means, docs/SUPPORT.
     );
 }
 
+// Each program has a loop of its own: what is written first, at the end and where a line cannot be read
+// differs, and a common loop would take each of these, and the answer to a line, as a closure.
 fn filter(rt: &(impl Print + Eprint), from: &mut impl Read, buf: &mut [u8], room: &mut [u8]) {
     let mut input = Input::new(from, buf);
     let mut out = Output::new(rt, room);
