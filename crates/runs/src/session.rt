@@ -1,5 +1,4 @@
 // What the program holds from line to line.
-use numbers::cycle::Stage;
 use numbers::slot::Slot;
 use runs_telling::Head;
 use settings::Config;
@@ -79,8 +78,11 @@ impl Session {
 fn tag_of(state: &State, slot: Slot) -> u64 {
     match slot {
         Slot::Current => state.cur.ep.tag,
-        Slot::Pending if state.cycle.stage() == Stage::PendI => state.cycle.pendi.ep.tag,
-        Slot::Pending => state.cycle.pendr.ep.tag,
+        // Where none is pending, what stands in the record of an answered attempt.
+        Slot::Pending => {
+            let cycle = &state.cycle;
+            cycle.pending_tag().unwrap_or(cycle.pendr.ep.tag)
+        }
         Slot::Previous => state.drain.ep.tag,
     }
 }

@@ -14,6 +14,7 @@ use Rattle.cycle.specs.declared.PendI.{PendI}
 use Rattle.cycle.specs.declared.PendR.{PendR}
 use Rattle.cycle.specs.declared.Cycle.{Cycle}
 use Rattle.candidates.specs.declared.Candidates.{Candidates}
+use Rattle.candidates.specs.Held.{Candidate}
 
 -- the cycle with an own attempt that completed
 unfoldable pub completed : Cycle → PendI → Cycle
@@ -37,6 +38,11 @@ kept e deadline evidenced = record { some = true; ep = e; deadline = deadline; e
 -- until when it is kept: the drain window after evidence that the peer moved, else the retention
 unfoldable pub kept_until : Config → ℕ → Bool → ℕ
 kept_until cfg now evidenced = later_of now (pick evidenced cfg.drain cfg.retention)
+
+-- a candidate that came at an instant, with an arrival number and a deadline, and every other number 0
+unfoldable pub arrived : ℕ → ℕ → ℕ → Candidate
+arrived seq now deadline =
+    record { hs = 0; msg1 = 0; ack = 0; carrier = 0; route = 0; born = now; deadline = deadline; bounded = 0; bound = 0; seq = seq }
 
 -- the candidates with one more behind them, which came at an instant; with 32 of them as they were
 unfoldable pub added : Candidates → ℕ → ℕ → Candidates
