@@ -16,6 +16,7 @@ struct Page {
     count: u64,
 }
 
+// As that of leaves: no program can use another's function.
 fn main(rt: HostRuntime) {
     let mut buf = io::large_buffer();
     let mut room = io::large_buffer();
@@ -47,6 +48,7 @@ fn is_row(line: &[u8]) -> bool {
     matches!(line, [b'|', _, b'`' | b'0'..=b'9', ..])
 }
 
+// Holds the row in line `number` to the one that comes next.
 fn respond(out: &mut Output<'_, '_, impl Print>, page: &mut Page, line: &[u8], number: u64) {
     let wanted = Wanted::new(page.next);
     match page.next {

@@ -63,7 +63,8 @@ impl Row {
         number: 0,
     };
 
-    // The row behind this one: the next number, or the first of the next table.
+    // The row behind this one: the next number, or the first of the next table. It is no iterator's `next`,
+    // since a row is wanted until a line agrees with it.
     pub(crate) fn next(self) -> Option<Row> {
         let after = Row {
             table: self.table,
@@ -116,7 +117,8 @@ impl Fields for Finder {
     }
 }
 
-// The number in a slot; neither the settings nor the profile has another kind of slot than these.
+// The number in a slot; neither the settings nor the profile has another kind of slot than these. It is no
+// `From`, since a slot of another kind has no number.
 fn value(slot: Slot<'_>) -> u64 {
     match slot {
         Slot::Number(n) => *n,

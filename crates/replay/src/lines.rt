@@ -59,7 +59,7 @@ impl Line {
     }
 }
 
-// Writes a line and its answers, unless it is an answer itself, and answers whether to go on. Where it
+// Writes line `number` and its answers, unless it is an answer itself, and answers whether to go on. Where it
 // does not read it is told; what was answered before it is written out first. The end is that of runs: a
 // common one would take the telling as a closure, and be no shorter.
 pub(crate) fn respond(

@@ -30,7 +30,7 @@ fn room() -> [u8; 524288] {
     [0u8; 524288]
 }
 
-fn named(rt: &impl Runtime, i: usize, buf: &mut [u8], out: &mut [u8], kept: &mut [u8]) {
+fn named(rt: &impl Runtime, i: usize, buf: &mut [u8], room: &mut [u8], kept: &mut [u8]) {
     if text_source::is_help(rt, i) {
         let _ = rt.write_all(
             b"replay [FILE ..]: answers lists in the replay format (docs/REPLAY.md), from standard input where no file is named.\n",
@@ -38,7 +38,7 @@ fn named(rt: &impl Runtime, i: usize, buf: &mut [u8], out: &mut [u8], kept: &mut
         return;
     }
     if let Some(mut source) = text_source::open(rt, i) {
-        filter(rt, &mut source, buf, out, kept);
+        filter(rt, &mut source, buf, room, kept);
         text_source::close(source);
     }
 }

@@ -61,7 +61,7 @@ impl Line {
     }
 }
 
-// Reads and answers a line, and answers whether to go on. Empty lines, and those that begin with `#`,
+// Reads and answers line `number`, and answers whether to go on. Empty lines, and those that begin with `#`,
 // are passed over. What was answered before a line that is refused is written out first. The end is
 // that of replay: a common one would take the telling as a closure, and be no shorter.
 pub(crate) fn respond(
