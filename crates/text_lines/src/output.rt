@@ -19,9 +19,15 @@ pub fn put(out: &mut [u8], at: usize, s: &[u8]) -> usize
 pub fn put_number(out: &mut [u8], at: usize, n: u64) -> usize
     ensures { (result ≡ written_to out.old at (decimal_of n)) × (out.new ≡ written out.old at (decimal_of n)) }
 {
-    let mut digits = [0u8; 20];
-    let k = io::decimal(n, &mut digits);
-    put(out, at, &digits[..k])
+    put(out, at, digits(n, &mut [0; 20]))
+}
+
+// The decimal digits of `n`.
+fn digits(n: u64, room: &mut [u8; 20]) -> &[u8]
+    ensures { result.now ≡ decimal_of n }
+{
+    let k = io::decimal(n, room);
+    &room[..k]
 }
 
 // What is to be written out: a lent buffer, which holds it up to `at`, and whether a write has
@@ -90,9 +96,7 @@ impl<'r, 'b, R: Print> Output<'r, 'b, R> {
         ensures buffer { self.new.buffer.now ≡ held self.old.buffer.now self.old.at (decimal_of n) }
         ensures at { self.new.at ≡ held_to self.old.buffer.now self.old.at (decimal_of n) }
     {
-        let mut digits = [0u8; 20];
-        let k = io::decimal(n, &mut digits);
-        self.bytes(&digits[..k]);
+        self.bytes(digits(n, &mut [0; 20]));
     }
 
     // Puts a space and then the decimal digits of `n`.

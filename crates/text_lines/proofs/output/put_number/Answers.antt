@@ -1,8 +1,0 @@
-use Rattle.std.proofs.Common.{◌∙◌}
-use Rattle.text_lines.proofs.Laws.{spelled}
-use Rattle.text_lines.proofs.output.put_number.Goals as goal
-
-pub returns : goal.returns
-returns c =
-    let e = c.decimal-k.ensures.digits ∙ spelled c.args.n c.decimal-k.result c.ranges.n.fits c.decimal-k.ensures.len in
-    rw e at c.put.ensures
