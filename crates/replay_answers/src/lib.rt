@@ -1,10 +1,18 @@
 // Calls answered in the replay format. No function has a `requires`.
 #![tactic(auto)]
 
+ghost use Rattle.std.specs.Prelude.{◌≡◌, [], ◌∷◌, ◌++◌};
+ghost use Rattle.text_lines.specs.Puts.{Puts, number_text};
+ghost use Rattle.text_words.specs.declared.Call.TheVariants.{Wake, Status};
+ghost use Rattle.text_words.specs.Calls.{call_no};
+ghost use Rattle.text_calls.specs.Calls.{answer_on, wake_on, status_on};
+ghost use Rattle.replay_answers.specs.Told.{count_text, refused_text, woke_text, shown_text, Hands, Reads};
+
 use call_read::{Shown, Woke};
 use state::State;
 use text_args::ARGS;
 use text_calls::Link;
+use text_events::Told;
 use text_lines::Output;
 use text_words::Call;
 
@@ -24,7 +32,11 @@ pub fn answer(
     kind: Kind,
     call: Call,
     a: &[u64; ARGS],
-) -> Option<State> {
+) -> Option<State>
+    ensures wake { call ≡ Wake → Reads (woke_text (wake_on link)) result out.old out.new }
+    ensures status { call ≡ Status → Reads (shown_text (status_on link a.now)) result out.old out.new }
+    ensures hands { (call ≡ Wake → ⊥) → (call ≡ Status → ⊥) → Hands (answer_on (call_no call) link a.now (0 ∷ []) (0 ∷ [])) result out.old out.new }
+{
     match call {
         Call::Wake => {
             write_woke(out, text_calls::wake(link));
@@ -47,7 +59,9 @@ pub fn hand(
     a: &[u64; ARGS],
     source: &[u8],
     target: &mut [u8],
-) -> Option<State> {
+) -> Option<State>
+    ensures { Hands (answer_on (call_no call) link a.now source.now target.old) result out.old out.new }
+{
     let mut log = [0u64; 768];
     let r = text_calls::answer(link, call, a, source, target, &mut log);
     if r.number != 0 {
@@ -55,7 +69,7 @@ pub fn hand(
         return None;
     }
     for words in log.chunks(8).take(r.len) {
-        text_events::write_event(out, words);
+        Told::new(words).write(out);
     }
     match call {
         Call::Poll => write_count(out, r.count),
@@ -68,7 +82,9 @@ pub fn hand(
     Some(r.state)
 }
 
-fn write_count(out: &mut Output<'_, '_, impl Print>, count: usize) {
+fn write_count(out: &mut Output<'_, '_, impl Print>, count: usize)
+    ensures { Puts (count_text count) out.old out.new }
+{
     out.bytes(b"= count");
     out.spaced(count as u64);
     out.bytes(b"\n");
@@ -86,14 +102,18 @@ pub fn write_state(out: &mut Output<'_, '_, impl Print>, state: &State) {
     out.bytes(b"\n");
 }
 
-fn write_refused(out: &mut Output<'_, '_, impl Print>, number: u8, place: u8) {
+fn write_refused(out: &mut Output<'_, '_, impl Print>, number: u8, place: u8)
+    ensures { Puts (refused_text number place) out.old out.new }
+{
     out.bytes(b"= refused");
     out.spaced(u64::from(number));
     out.spaced(u64::from(place));
     out.bytes(b"\n");
 }
 
-fn write_woke(out: &mut Output<'_, '_, impl Print>, r: Woke) {
+fn write_woke(out: &mut Output<'_, '_, impl Print>, r: Woke)
+    ensures { Puts (woke_text r) out.old out.new }
+{
     if r.number != 0 {
         return write_refused(out, r.number, r.place);
     }
@@ -102,7 +122,9 @@ fn write_woke(out: &mut Output<'_, '_, impl Print>, r: Woke) {
     out.bytes(b"\n");
 }
 
-fn write_shown(out: &mut Output<'_, '_, impl Print>, r: Shown) {
+fn write_shown(out: &mut Output<'_, '_, impl Print>, r: Shown)
+    ensures { Puts (shown_text r) out.old out.new }
+{
     if r.number != 0 {
         return write_refused(out, r.number, r.place);
     }

@@ -2,10 +2,18 @@
 // them where they are asked for. No function has a `requires`.
 #![tactic(auto)]
 
+ghost use Rattle.std.specs.Prelude.{◌≡◌, None, [], ◌∷◌, replicate};
+ghost use Rattle.text_lines.specs.Puts.{Puts, Begins};
+ghost use Rattle.text_words.specs.declared.Call.TheVariants.{Frame, Wake, Status};
+ghost use Rattle.text_words.specs.Calls.{call_no};
+ghost use Rattle.text_calls.specs.Calls.{answer_on, wake_on, status_on};
+ghost use Rattle.runs_telling.specs.Told.{Adds, Hands, Refuses, Shows, Wakes, head_text};
+
 use call_read::{Shown, Woke};
 use state::State;
 use text_args::ARGS;
 use text_calls::{Link, place};
+use text_events::Told;
 use text_lines::Output;
 use text_lists::List;
 use text_words::Call;
@@ -25,7 +33,11 @@ pub fn answer(
     head: Head,
     call: Call,
     a: &[u64; ARGS],
-) -> Option<State> {
+) -> Option<State>
+    ensures wake { call ≡ Wake → (result ≡ None) × (Wakes head (wake_on link) out.old out.new) }
+    ensures status { call ≡ Status → (result ≡ None) × (Shows head (status_on link a.now) out.old out.new) }
+    ensures hands { (call ≡ Frame → ⊥) → (call ≡ Wake → ⊥) → (call ≡ Status → ⊥) → Hands head (answer_on (call_no call) link a.now (0 ∷ []) (0 ∷ [])) result out.old out.new }
+{
     match call {
         Call::Frame => frame(out, link, head, a),
         Call::Wake => {
@@ -71,7 +83,9 @@ fn hand(
     a: &[u64; ARGS],
     source: &[u8],
     target: &mut [u8],
-) -> Option<State> {
+) -> Option<State>
+    ensures { Hands head (answer_on (call_no call) link a.now source.now target.old) result out.old out.new }
+{
     let mut log = [0u64; 768];
     let r = text_calls::answer(link, call, a, source, target, &mut log);
     if r.number != 0 {
@@ -84,24 +98,36 @@ fn hand(
     Some(r.state)
 }
 
-fn write_event(out: &mut Output<'_, '_, impl Print>, head: Head, words: &[u64]) {
+fn write_event(out: &mut Output<'_, '_, impl Print>, head: Head, words: &[u64])
+    ensures { Begins (head_text head (32 ∷ [])) out.old out.new }
+{
     begin(out, head, b" ");
-    text_events::write_explained(out, words, head.explain);
+    Told::new(words).write_explained(out, head.explain);
     out.bytes(b"\n");
 }
 
 // The number of a refusal and the place of its check.
-fn refused(out: &mut Output<'_, '_, impl Print>, head: Head, number: u8, place: u8) {
+fn refused(out: &mut Output<'_, '_, impl Print>, head: Head, number: u8, place: u8)
+    ensures { Refuses head number place out.old out.new }
+{
     begin(out, head, b" refused");
     out.spaced(u64::from(number));
     out.spaced(u64::from(place));
-    if head.explain {
-        text_events::write_refused(out, u64::from(number), u64::from(place));
-    }
+    explain_refused(out, head, number, place);
     out.bytes(b"\n");
 }
 
-fn write_wake(out: &mut Output<'_, '_, impl Print>, head: Head, r: Woke) {
+fn explain_refused(out: &mut Output<'_, '_, impl Print>, head: Head, number: u8, place: u8)
+    ensures { Adds head.explain out.old out.new }
+{
+    if head.explain {
+        text_events::write_refused(out, u64::from(number), u64::from(place));
+    }
+}
+
+fn write_wake(out: &mut Output<'_, '_, impl Print>, head: Head, r: Woke)
+    ensures { Wakes head r out.old out.new }
+{
     if r.number != 0 {
         return refused(out, head, r.number, r.place);
     }
@@ -111,28 +137,37 @@ fn write_wake(out: &mut Output<'_, '_, impl Print>, head: Head, r: Woke) {
 }
 
 // The link line: current tag, cycle kind, wake and quiet time.
-fn write_status(out: &mut Output<'_, '_, impl Print>, head: Head, r: Shown) {
+fn write_status(out: &mut Output<'_, '_, impl Print>, head: Head, r: Shown)
+    ensures { Shows head r out.old out.new }
+{
     if r.number != 0 {
         return refused(out, head, r.number, r.place);
     }
-    let wake = r.wake.get();
     begin(out, head, b" status tag");
     out.spaced_or(r.tag.get(), b" none");
     out.bytes(b" cycle ");
     text_events::write_name(out, List::Cycles, u64::from(r.kind));
     out.bytes(b" wake");
-    out.spaced_or(wake, b" none");
+    out.spaced_or(r.wake.get(), b" none");
     out.bytes(b" quiet");
     out.spaced_or(r.quiet.get(), b" none");
-    if head.explain {
-        let passed = wake.is_some_and(|t| t <= head.time);
-        text_events::write_cycle(out, u64::from(r.kind), passed);
-    }
+    explain_cycle(out, head, r);
     out.bytes(b"\n");
 }
 
+fn explain_cycle(out: &mut Output<'_, '_, impl Print>, head: Head, r: Shown)
+    ensures { Adds head.explain out.old out.new }
+{
+    if head.explain {
+        let passed = r.wake.get().is_some_and(|t| t <= head.time);
+        text_events::write_cycle(out, u64::from(r.kind), passed);
+    }
+}
+
 // The first two columns, and what stands behind them.
-fn begin(out: &mut Output<'_, '_, impl Print>, head: Head, behind: &[u8]) {
+fn begin(out: &mut Output<'_, '_, impl Print>, head: Head, behind: &[u8])
+    ensures { Puts (head_text head behind.now) out.old out.new }
+{
     out.number(head.call);
     out.spaced(head.time);
     out.bytes(behind);

@@ -6,5 +6,5 @@
 mod event;
 mod named;
 
-pub use event::{write_event, write_explained};
-pub use named::{write_cycle, write_name, write_refused, write_words};
+pub use event::Told;
+pub use named::{write_cycle, write_name, write_refused};

@@ -1,2 +1,3 @@
 mod Laws
 mod Lines
+pub mod Puts
