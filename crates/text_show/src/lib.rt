@@ -1,6 +1,10 @@
 // The state as a line of the replay format. No function has a `requires`.
 #![tactic(auto)]
 
+ghost use Rattle.std.specs.Prelude.{◌≡◌, true, false, [], ◌∷◌, ◌++◌, cond};
+ghost use Rattle.text_lines.specs.Puts.{Puts, number_text, optional_text};
+ghost use Rattle.text_show.specs.Shown.{kind_word as word_of, dash, there_text, signed_text, numbers_text, ladder_text, may_ladder_text, final_text};
+
 use epoch::{Final, MayLadder};
 use ladder::Ladder;
 use state::State;
@@ -61,7 +65,11 @@ impl<R: Print> Writer<'_, '_, '_, R> {
     }
 
     // The word, with a space before it unless it is the first.
-    fn word(&mut self, word: &[u8]) {
+    fn word(&mut self, word: &[u8])
+        ensures puts { Puts (cond self.old.first [] ((32 ∷ []) ∷ []) ++ (word.now ∷ [])) self.old.out.now self.new.out.now }
+        ensures same_output { self.new.out.ghost_name ≡ self.old.out.ghost_name }
+        ensures first { self.new.first ≡ false }
+    {
         if !self.first {
             self.out.bytes(b" ");
         }
@@ -69,15 +77,24 @@ impl<R: Print> Writer<'_, '_, '_, R> {
         self.out.bytes(word);
     }
 
-    fn number(&mut self, n: u64) {
+    fn number(&mut self, n: u64)
+        ensures puts { Puts (number_text n) self.old.out.now self.new.out.now }
+        ensures same_output { self.new.out.ghost_name ≡ self.old.out.ghost_name }
+    {
         self.out.spaced(n);
     }
 
-    fn optional(&mut self, n: Option<u64>) {
+    fn optional(&mut self, n: Option<u64>)
+        ensures puts { Puts (optional_text n dash) self.old.out.now self.new.out.now }
+        ensures same_output { self.new.out.ghost_name ≡ self.old.out.ghost_name }
+    {
         self.out.spaced_or(n, b" -");
     }
 
-    fn signed(&mut self, n: i32) {
+    fn signed(&mut self, n: i32)
+        ensures puts { Puts (signed_text n) self.old.out.now self.new.out.now }
+        ensures same_output { self.new.out.ghost_name ≡ self.old.out.ghost_name }
+    {
         if n < 0 {
             self.out.bytes(b" -");
             self.out.number(u64::from(n.unsigned_abs()));
@@ -86,7 +103,10 @@ impl<R: Print> Writer<'_, '_, '_, R> {
         }
     }
 
-    fn there(&mut self, there: bool) {
+    fn there(&mut self, there: bool)
+        ensures puts { Puts (there_text there) self.old.out.now self.new.out.now }
+        ensures same_output { self.new.out.ghost_name ≡ self.old.out.ghost_name }
+    {
         if there {
             self.out.bytes(b" +");
         } else {
@@ -94,14 +114,20 @@ impl<R: Print> Writer<'_, '_, '_, R> {
         }
     }
 
-    fn may_ladder(&mut self, may: MayLadder) {
+    fn may_ladder(&mut self, may: MayLadder)
+        ensures puts { Puts (may_ladder_text may) self.old.out.now self.new.out.now }
+        ensures same_output { self.new.out.ghost_name ≡ self.old.out.ghost_name }
+    {
         self.there(may.some);
         if may.some {
             self.ladder(may.ladder);
         }
     }
 
-    fn fin(&mut self, fin: Final) {
+    fn fin(&mut self, fin: Final)
+        ensures puts { Puts (final_text fin) self.old.out.now self.new.out.now }
+        ensures same_output { self.new.out.ghost_name ≡ self.old.out.ghost_name }
+    {
         self.there(fin.some);
         if fin.some {
             self.number(fin.msg);
@@ -109,18 +135,31 @@ impl<R: Print> Writer<'_, '_, '_, R> {
         }
     }
 
-    fn ladder(&mut self, l: Ladder) {
+    fn ladder(&mut self, l: Ladder)
+        ensures puts { Puts (ladder_text l) self.old.out.now self.new.out.now }
+        ensures same_output { self.new.out.ghost_name ≡ self.old.out.ghost_name }
+    {
         self.number(l.origin);
         self.number(u64::from(l.next));
         self.number(u64::from(l.sched.len));
         self.number(l.sched.keepalive);
-        for at in l.sched.at.iter().take(l.sched.len as usize) {
-            self.number(*at);
+        let len = usize::from(l.sched.len).min(l.sched.at.len());
+        self.numbers(&l.sched.at[..len]);
+    }
+
+    fn numbers(&mut self, ns: &[u64])
+        ensures puts { Puts (numbers_text ns.now) self.old.out.now self.new.out.now }
+        ensures same_output { self.new.out.ghost_name ≡ self.old.out.ghost_name }
+    {
+        for n in ns {
+            self.number(*n);
         }
     }
 }
 
 // The word for a kind of the cycle; any other number counts as idle.
-fn kind_word(kind: u8) -> &'static [u8] {
+fn kind_word(kind: u8) -> &'static [u8]
+    ensures { result.now ≡ word_of kind }
+{
     KINDS.get(usize::from(kind)).copied().unwrap_or(b"idle")
 }
