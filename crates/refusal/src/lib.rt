@@ -93,7 +93,7 @@ fn ladder_bad(l: &Ladder) -> bool
 
 // 7: a spread outside -j to j.
 #[tactic(auto, unfolding(crate::specs::Refusal::spread_bad))]
-pub fn spread_bad(j: u16, spread: i32) -> bool
+fn spread_bad(j: u16, spread: i32) -> bool
     ensures { result ≡ spread_bad j spread }
 {
     u32::from(j) < spread.unsigned_abs()
@@ -101,7 +101,7 @@ pub fn spread_bad(j: u16, spread: i32) -> bool
 
 // 7: an extra above j.
 #[tactic(auto, unfolding(crate::specs::Refusal::extra_bad))]
-pub fn extra_bad(j: u16, extra: u32) -> bool
+fn extra_bad(j: u16, extra: u32) -> bool
     ensures { result ≡ extra_bad j extra }
 {
     u32::from(j) < extra
