@@ -7,7 +7,6 @@ ghost use Rattle.std.specs.Prelude.{◌≡◌, []};
 ghost use Rattle.time.specs.Time.{least};
 ghost use Rattle.start.specs.Start.{kind_given};
 ghost use Rattle.refusal.specs.Refused.{refused_of};
-ghost use Rattle.params.specs.Params.{value_or};
 ghost use Rattle.answer.specs.Answers.{Answers};
 ghost use Rattle.call_reply.specs.Reply.{setup_rtt, setup_first, setup_sched, attempt_sched, attempt_time, attempt_of, raises_silence, silence_after, memory_after, started_of, taken_of, reply_refused, reply_of};
 ghost use Rattle.call_reply.specs.Exact.{ReplyExact};
@@ -21,7 +20,6 @@ use numbers::start::Start;
 use refusal::Refusal;
 use settings::Config;
 use state::{Memory, Profile, State};
-use time::When;
 
 // Whether the start opened an attempt, and the numbers of its handshake, its first message, its
 // transport and its lease or none. It crosses to C: without an attempt the flag is off.
@@ -35,19 +33,13 @@ pub struct StartReply {
     pub lease: Index,
 }
 
-// A number that may be absent, or 0.
-fn or_zero(w: When) -> u64
-    ensures { result ≡ value_or 0 w }
-{
-    w.get().unwrap_or(0)
-}
-
 // The longer of the round trips that were measured.
 #[tactic(auto, using(time::proofs::Std::std_words), unfolding(crate::specs::Reply::setup_rtt))]
 fn setup_rtt(m: &Memory) -> u64
     ensures { result ≡ setup_rtt m.now }
 {
-    or_zero(m.hs_rtt).max(or_zero(m.srtt))
+    let handshake = m.hs_rtt.get().unwrap_or(0);
+    handshake.max(m.srtt.get().unwrap_or(0))
 }
 
 // The first interval of a setup's resends: two round trips, at least a second and the backoff kept
@@ -57,7 +49,8 @@ fn setup_first(m: &Memory, cfg: Config) -> u64
     ensures { result ≡ setup_first m.now cfg }
 {
     let two = setup_rtt(m).saturating_mul(2);
-    let first = two.max(1000).max(or_zero(m.setup_rto));
+    let kept = m.setup_rto.get().unwrap_or(0);
+    let first = two.max(1000).max(kept);
     first.min(params::rung(cfg))
 }
 

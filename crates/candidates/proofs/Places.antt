@@ -1,20 +1,19 @@
 -- Laws of arrays read and moved place by place, for the loops.
 use Prim.Native.Nat.{ℕ, zero, suc, ◌≤◌, ◌<◌, ◌+◌, ◌-◌}
 use Rattle.std.specs.List.{copy_within}
-use Rattle.std.specs.Prelude.{Option, Some, None, IfSome, is_some, unwrap_or, Bool, true, false, ◌||◌, ◌≡◌, refl, take, drop, set, ltb, eqb}
+use Rattle.std.specs.Prelude.{Bool, true, false, ◌||◌, ◌≡◌, refl, take, drop, set, ltb, eqb}
 use Rattle.std.proofs.Common.{true≢false, sym, ◌∙◌, ap, ⊎_elim, zero-add, add-zero, add-one, arith, take-append-drop, drop-cons, take-suc-set, drop-set-lt, get_or-set_other}
 use Rattle.std.proofs.lemmas.Bool.{false≢true}
 use mathlib.Core.List.{List, [], ◌∷◌, ◌++◌, map, append-nil, append_assoc, map-append, Sublistᴰ}
 use Rattle.std.proofs.Math.Nat.{sub-zero}
-use borrow.Author.Tests.{eq-eqb, ne_eqb, lt-ltb, le-ltb, ltb-true}
+use borrow.Author.Tests.{ne_eqb, lt-ltb, ltb-true}
 use Rattle.std.proofs.Math.ListN.{length, get_or, length-map, length-append}
 use Rattle.std.proofs.Math.Seq.{append_snoc}
 use Rattle.time.specs.Pick.{pick}
-use Rattle.time.specs.Lists.{fold, range, kept, range-next, range-end, length-range}
+use Rattle.time.specs.Lists.{range, kept, range-next, range-end, length-range}
 use Rattle.time.specs.Laws.{decide}
-use Rattle.candidates.specs.Held.{between, place_of, chosen, others}
+use Rattle.candidates.specs.Held.{between, chosen, others}
 use Rattle.candidates.specs.Repeats.{repeated, rises, rises_from, among}
-use Rattle.std.proofs.Math.Dec.{leb-suc-suc}
 use Rattle.candidates.specs.Places.{After, keeping, moved, shifting}
 
 above : (x : ℕ) (l : List ℕ) (y : ℕ) → rises_from x l ≡ true → y ≤ x → among y l ≡ false
@@ -42,16 +41,6 @@ pub rises-once : (l : List ℕ) → rises l ≡ true → repeated l ≡ false
 unfolding rises repeated
 rises-once [] e = refl
 rises-once (x ∷ l) e = once-from x l e
-
--- a number stands in a list where its place is below the list's length
-pub among-place : (x : ℕ) (l : List ℕ) → among x l ≡ ltb (place_of x l) (length l)
-unfolding among place_of
-among-place x [] = refl
-among-place x (y ∷ l) = under (eqb y x) (among-place x l)
-  where
-    under : (q : Bool) → among x l ≡ ltb (place_of x l) (length l) → (q || among x l) ≡ ltb (pick q 0 (suc (place_of x l))) (suc (length l))
-    under true rest = sym (lt-ltb 0 (suc (length l)) (omega arith))
-    under false rest = rest ∙ sym (leb-suc-suc (suc (place_of x l)) (length l))
 
 among_part : {l m : List ℕ} (x : ℕ) → Sublistᴰ l m → among x m ≡ false → among x l ≡ false
 unfolding among
@@ -94,21 +83,6 @@ module _ (i n : ℕ) (l : List ℕ) where
   pub length-between : length (between i n l) ≡ n - i
   unfolding between
   length-between = length-map (range i (n - i)) (λ j. get_or l j 0) ∙ length-range i (n - i)
-
--- ---- a search
-
-module _ (x j n : ℕ) (l : List ℕ) where
-  pub place_here : j < n → get_or l j 0 ≡ x → j + place_of x (between j n l) ≡ j
-  unfolding place_of
-  place_here h e = rw (between_next j n l h, eq-eqb (get_or l j 0) x e) (add-zero j)
-
-  pub place-on : j < n → (get_or l j 0 ≡ x → ⊥) → j + place_of x (between j n l) ≡ j + 1 + place_of x (between (j + 1) n l)
-  unfolding place_of
-  place-on h e = rw (between_next j n l h, ne_eqb (get_or l j 0) x e) (omega arith)
-
-  pub place_none : n ≤ j → j + place_of x (between j n l) ≡ j
-  unfolding place_of
-  place_none h = rw (between-end j n l h) (add-zero j)
 
 pub after-range : (w i n : ℕ) → w < i → After w (range i n)
 unfolding After range
@@ -214,42 +188,9 @@ module _ (i n : ℕ) (l : List ℕ) where
   unfolding rises_from
   rising-on x h e = rw (between_next i n l h, lt-ltb x (get_or l i 0) e)
 
-  pub rising_not : (x : ℕ) → i < n → get_or l i 0 ≤ x → rises_from x (between i n l) ≡ false
-  unfolding rises_from
-  rising_not x h e = rw (between_next i n l h, le-ltb x (get_or l i 0) e)
-
   pub rising-end : (x : ℕ) → n ≤ i → rises_from x (between i n l) ≡ true
   unfolding rises_from
   rising-end x h = rw (between-end i n l h)
-
-  -- where the number at i stands again after it
-  abbrev pub again : ℕ
-  again = i + 1 + place_of (get_or l i 0) (between (i + 1) n l)
-
-  pub pair-here : i < n → again < n → repeated (between i n l) ≡ true
-  unfolding repeated
-  pair-here h e =
-      rw (between_next i n l h, among-place (get_or l i 0) (between (i + 1) n l), length-between (i + 1) n l, lt-ltb (place_of (get_or l i 0) (between (i + 1) n l)) (n - (i + 1)) (omega arith))
-
-  pub pair-on : i < n → n ≤ again → repeated (between i n l) ≡ repeated (between (i + 1) n l)
-  unfolding repeated
-  pair-on h e =
-      rw (between_next i n l h, among-place (get_or l i 0) (between (i + 1) n l), length-between (i + 1) n l, le-ltb (place_of (get_or l i 0) (between (i + 1) n l)) (n - (i + 1)) (omega arith))
-
-  pub pair-none : n ≤ i → repeated (between i n l) ≡ false
-  unfolding repeated
-  pair-none h = rw (between-end i n l h)
-
--- ---- a fold over places
-
-module _ {B : Type 0} (f : B → ℕ → B) (i n : ℕ) (l : List ℕ) (b : B) where
-  pub fold_next : i < n → fold f b (between i n l) ≡ fold f (f b (get_or l i 0)) (between (i + 1) n l)
-  unfolding fold
-  fold_next h = rw (between_next i n l h)
-
-  pub fold_end : n ≤ i → fold f b (between i n l) ≡ b
-  unfolding fold
-  fold_end h = rw (between-end i n l h)
 
 -- a shift of what stands after place j
 pub shifted : (j n : ℕ) (l : List ℕ) → j < n → n ≤ length l → copy_within l (j + 1) n j ≡ chosen (others j n) l
@@ -257,12 +198,3 @@ unfolding shifting moved
 shifted j n l h k =
     let p : j + 1 + (n - (j + 1)) ≤ length l = omega arith in
     sym (shifting-all j n l (omega arith) ∙ rw (read_range l (j + 1) (n - (j + 1)) p, length-range (j + 1) (n - (j + 1))) (sym (append_assoc (take j l) (take (n - (j + 1)) (drop (j + 1) l)) (drop (j + (n - (j + 1))) l))))
-
--- a search that answers where a number stands below n, or n
-pub some-below : (o : Option ℕ) (n : ℕ) → IfSome o (λ j. j < n) → is_some o ≡ true → unwrap_or o n < n
-some-below None n h e = absurd (false≢true e)
-some-below (Some j) n h e = h
-
-pub none-at : (o : Option ℕ) (n : ℕ) → is_some o ≡ false → n ≤ unwrap_or o n
-none-at None n e = omega arith
-none-at (Some j) n e = absurd (true≢false e)

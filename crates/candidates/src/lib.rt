@@ -4,7 +4,8 @@
 // numbers and copies no record. Places from `len` on are no part of the state.
 #![tactic(auto)]
 
-ghost use Rattle.std.specs.Prelude.{◌≡◌, [], ◌+◌, ◌≤◌, ◌<◌, length, unwrap_or, IfSome};
+ghost use Rattle.std.specs.Prelude.{◌≡◌, [], ◌+◌, ◌≤◌, ◌<◌, length, unwrap_or, eqb, IfSome};
+ghost use Rattle.std.specs.List.{position};
 ghost use Rattle.time.specs.Lists.{kept};
 ghost use Rattle.candidates.specs.Held.{held_of, between, firsts, held_by, without, expired_in, born_after, earliest_of, place_of, spot_of, chosen, others, choosing, removed_of, younger, kept_after, cleared_of, expire_of};
 ghost use Rattle.candidates.specs.Repeats.{repeated, rises};
@@ -33,20 +34,6 @@ pub struct Candidates {
     pub next: u64,
 }
 
-// Where `x` first stands from place `i` up to `n`.
-fn find(a: &[u64; 32], i: usize, n: usize, x: u64) -> Option<usize>
-    requires { (i ≤ n) × (n ≤ 32) }
-    ensures place { unwrap_or result n ≡ i + place_of x (between i n a.now) }
-    ensures within { IfSome result (λ j. j < n) }
-{
-    for j in i..n {
-        if a[j] == x {
-            return Some(j);
-        }
-    }
-    None
-}
-
 // What stands after place `i`, up to `n`, moves down by one; how many are left.
 fn drop_at(a: &mut [u64; 32], i: usize, n: usize) -> usize
     requires { (i < n) × (n ≤ 32) × (length a.old ≡ 32) }
@@ -71,31 +58,37 @@ fn pack(a: &mut [u64; 32], born: &[u64; 32], n: usize, t: u64) -> usize
     w
 }
 
-// Whether each of the first `n` numbers is above the one before it.
-fn rising(a: &[u64; 32], n: usize) -> bool
-    requires { n ≤ 32 }
-    ensures { result ≡ rises (between 0 n a.now) }
+// Where `x` first stands.
+fn find(a: &[u64], x: u64) -> Option<usize>
+    ensures { result ≡ position (λ y. eqb y x) a.now }
 {
-    let mut last = a[0];
-    for i in 1..n {
-        let x = a[i];
-        if x <= last {
-            return false;
-        }
-        last = x;
-    }
-    true
+    a.iter().position(|y| *y == x)
 }
 
-// Whether two of the first `n` numbers are equal, each compared with all after it.
-fn pairs(a: &[u64; 32], n: usize) -> bool
-    requires { n ≤ 32 }
-    ensures { result ≡ repeated (between 0 n a.now) }
+// The least of the numbers, absent where there is none.
+fn least(a: &[u64]) -> Option<u64>
+    ensures { when_of result ≡ earliest_of a.now }
 {
-    for i in 0..n {
-        if find(a, i + 1, n, a[i]).is_some() {
+    a.iter().copied().min()
+}
+
+// Whether each number is above the one before it.
+fn rising(a: &[u64]) -> bool
+    ensures { result ≡ rises a.now }
+{
+    a.is_sorted_by(|x, y| x < y)
+}
+
+// Whether two numbers are equal, each compared with all after it.
+fn pairs(a: &[u64]) -> bool
+    ensures { result ≡ repeated a.now }
+{
+    let mut rest = a;
+    while let Some((x, after)) = rest.split_first() {
+        if after.contains(x) {
             return true;
         }
+        rest = after;
     }
     false
 }
@@ -130,7 +123,7 @@ impl Candidates {
         ensures place { unwrap_or result (held_of self.now.len) ≡ spot_of self.now seq }
         ensures within { IfSome result (λ i. (i < held_of self.now.len) × (i < 32)) }
     {
-        find(&self.seq, 0, self.held(), seq)
+        find(&self.seq[..self.held()], seq)
     }
 
     // Whether two have the same arrival number. Numbers that rise, as they do unless a caller made
@@ -138,20 +131,15 @@ impl Candidates {
     pub fn repeats(&self) -> bool
         ensures { result ≡ repeated (firsts self.now.len self.now.seq) }
     {
-        let n = self.held();
-        !rising(&self.seq, n) && pairs(&self.seq, n)
+        let seqs = &self.seq[..self.held()];
+        !rising(seqs) && pairs(seqs)
     }
 
     // The least of the deadlines, absent where there is none.
     pub fn earliest(&self) -> Option<u64>
         ensures { when_of result ≡ earliest_of (firsts self.now.len self.now.deadline) }
     {
-        let n = self.held();
-        let mut least = None;
-        for i in 0..n {
-            least = time::sooner(least, Some(self.deadline[i]));
-        }
-        least
+        least(&self.deadline[..self.held()])
     }
 
     // Each array of numbers changed by `f`, which answers how many places are left.

@@ -20,7 +20,8 @@ fn reaches(body: usize, n: usize, floor: u64, source: usize, target: usize) -> b
 }
 
 // The plaintext is put into the frame's buffer and delivered, unless it is shorter than the layer's
-// floor or a buffer is too short: then no byte changes.
+// floor or a buffer is too short: then no byte changes. The place and the two buffers stand one by one, as C hands
+// them over: a struct of them would hold a `&mut`, and the clauses would name its fields in place of the arguments.
 #[tactic(auto, unfolding(crate::specs::Deliver::deliver_out, crate::specs::Deliver::deliver_into))]
 pub fn deliver(
     slot: Slot,

@@ -1,4 +1,5 @@
-// A frame that authenticated: `frame` of machine.rs, and the refusals that concern a frame alone.
+// A frame that authenticated: `frame` of machine.rs, and the refusals that concern a frame alone. The place of the
+// plaintext and the two buffers stand one by one, as C hands them over (frame_deliver `deliver`).
 #![tactic(auto)]
 
 ghost use Rattle.std.specs.Prelude.{◌≡◌};

@@ -1,5 +1,5 @@
 // Refusals: why a call is sent back, and what a call tests before it does anything (1 to 7). A state is
-// read where it stands: no epoch is copied.
+// read where it stands: no epoch is copied. Settings and profile stand one by one, as C hands them over.
 #![tactic(auto)]
 
 ghost use Rattle.std.specs.Prelude.{◌≡◌, ◌||◌, [], ◌∷◌};

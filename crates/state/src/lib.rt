@@ -80,7 +80,7 @@ pub struct Profile {
 
 // What a call is given beside the state: settings, profile, instant, worker flag and the extra, the
 // draw of an abandoned attempt in whole seconds. The spread, the draw of an install or a cutover,
-// is passed by itself: a signed number inside a record is dear to prove.
+// is passed by itself, as C passes it to the quiet test.
 #[repr(C)]
 #[derive(Clone, Copy)]
 pub struct Given {

@@ -1,8 +1,10 @@
-use Rattle.std.proofs.Common.{◌≡◌}
-use Rattle.candidates.specs.Held.{between}
+use Rattle.std.proofs.Common.{◌≡◌, length}
 use Rattle.candidates.specs.Repeats.{repeated}
 use Rattle.candidates.proofs.pairs.Given as goal
 
--- Whether a number stands twice from place i on is whether one stands twice.
-abbrev pub invariant-loop-i : goal.invariant-loop-i
-invariant-loop-i l = repeated (between 0 l.n l.a) ≡ repeated (between l.i l.n l.a)
+-- Whether a number stands twice in the rest is whether one stands twice.
+abbrev pub invariant-loop-x : goal.invariant-loop-x
+invariant-loop-x l = repeated l.initial.a ≡ repeated l.rest
+
+abbrev pub decreases-loop-x : goal.decreases-loop-x
+decreases-loop-x l = length l.rest

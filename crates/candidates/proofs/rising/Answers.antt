@@ -1,15 +1,8 @@
-use mathlib.Core.Path.{sym, ◌∙◌}
-use Rattle.candidates.proofs.Places.{rising-start, rising-on, rising_not, rising-end}
+use Rattle.std.specs.Prelude.{ltb}
+use Rattle.std.proofs.Common.{rules}
+use Rattle.std.proofs.lemmas.List.Sorted.{answers_always}
+use Rattle.candidates.proofs.Slices.{rises_told}
 use Rattle.candidates.proofs.rising.Goals as goal
 
-pub loop-i-init : goal.loop-i-init
-loop-i-init c = rising-start _ _
-
-pub returns-then-x-last : goal.returns-then-x-last
-returns-then-x-last c = sym (c.loop-i.invariant ∙ rising_not _ _ _ _ c.loop-i-test.true c.if-x-last.true)
-
-pub loop-i-preserved : goal.loop-i-preserved
-loop-i-preserved c = c.loop-i.invariant ∙ rising-on _ _ _ _ c.loop-i-test.true c.if-x-last.false
-
 pub returns : goal.returns
-returns c = sym (c.loop-i.invariant ∙ rising-end _ _ _ _ c.loop-i-test.false)
+returns c = rises_told _ _ (c.is_sorted_by.ensures.cases ltb (answers_always _ _ _ (λ f a r f' k. search rules)))
