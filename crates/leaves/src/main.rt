@@ -11,6 +11,7 @@ use std::io::Read;
 use text::Scan;
 use text_lines::{Input, Output};
 
+// `page` has the same lines here: no crate can give another its `main`.
 fn main(rt: HostRuntime) {
     let mut buf = io::large_buffer();
     let mut room = io::large_buffer();

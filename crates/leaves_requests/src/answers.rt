@@ -24,7 +24,8 @@ pub enum Answer {
     Derived(Params),
 }
 
-// When a ladder's next rung is, whether it is due, what is taken of the ladder, and how it then stands.
+// When a ladder's next rung is, whether it is due, what is taken of the ladder, and how it then stands: what each method of the
+// ladder answers, by itself, since a comparison with the Rust is to see each.
 #[derive(Clone, Copy)]
 pub struct Step {
     pub next_at: Option<u64>,
@@ -34,7 +35,8 @@ pub struct Step {
 }
 
 impl Request {
-    // The answer, or the check that refuses the settings.
+    // The answer, or the check that refuses the settings. `later`, `since` and `backoff` ask the functions of crate time that the
+    // rule is written with, and not std's.
     #[tactic(auto, using(crate::proofs::Laws::refused_new), unfolding(crate::specs::Answers::answer_of))]
     pub fn answer(self) -> Result<Answer, Check>
         ensures { said result ≡ answer_of self }

@@ -75,7 +75,8 @@ fn read_schedule(scan: &mut Scan<'_>) -> Result<Made, Fault> {
     Ok(made)
 }
 
-// Whether nothing but empty lines follows the first line; else it is told.
+// Whether nothing but empty lines follows the first line; else it is told. `all` over the lines would not do: a reader that fails
+// is told otherwise than a line too many.
 fn ends(rt: &impl Eprint, input: &mut Input<'_, impl Read>) -> bool {
     for number in 2..u64::MAX {
         match input.advance() {
@@ -94,6 +95,8 @@ fn ends(rt: &impl Eprint, input: &mut Input<'_, impl Read>) -> bool {
     false
 }
 
+// Tells a fault in the one line. The fields' names stand in a `match` on the field's number: a table would be read at that number
+// less 2, with a case beside it for what is past its end.
 fn tell_fault(rt: &impl Eprint, scan: &Scan<'_>, fault: Fault) {
     let (name, most) = match text::ordinal(scan.line, scan.at) {
         2 => ("FIRST", u64::MAX),
