@@ -37,6 +37,7 @@ fn ladder_due(l: &Ladder, time: u64) -> bool
     next < l.sched.rungs() && time::later(l.origin, l.sched.at[next]) <= time
 }
 
+// The two records that hold a ladder have a test each: a trait over both would be longer than the two.
 #[tactic(auto, using(crate::proofs::Words::due_words), unfolding(wake::specs::Due::may_instants))]
 fn may_due(m: &MayLadder, time: u64) -> bool
     ensures { result ≡ reached_of (earliest_of (may_instants m.now)) time }
@@ -119,7 +120,7 @@ fn both(v: &Candidates, time: u64) -> bool
 }
 
 // Whether there are more than 32 candidates (3), a deadline of one is reached, or two share a
-// sequence number (5).
+// sequence number (5). The match is on how many there are, which is no kind.
 fn waiting_busy(s: &State, time: u64) -> bool
     ensures { result ≡ waiting_busy s.now time }
 {
