@@ -1,4 +1,5 @@
-// Where the fields of a line begin and end.
+// Where the fields of a line begin and end. The functions take a line and a place in it; `Scan`, which holds both,
+// stands on them.
 ghost use Rattle.std.specs.Prelude.{◌≡◌, ◌+◌, ◌≤◌, length, drop, IfSome};
 ghost use Rattle.text.specs.Bytes.{index_of};
 ghost use Rattle.text.specs.Fields.{Within, field_at, bytes_at, ordinal_of};

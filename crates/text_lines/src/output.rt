@@ -1,4 +1,5 @@
-// Bytes and numbers put into a lent buffer.
+// Bytes and numbers put into a lent buffer. `put` and `put_number` take a buffer and a place; `Output`, which
+// holds both, stands on them.
 ghost use Rattle.std.specs.Prelude.{◌≡◌, ◌+◌, leb};
 ghost use Rattle.text_lines.specs.Outputs.{written, written_to, held, held_to, decimal_of, spaced, spaced_to, spaced_or, spaced_or_to};
 
