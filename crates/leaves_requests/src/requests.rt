@@ -64,7 +64,7 @@ pub enum Request {
 }
 
 // Which request a line is.
-#[derive(Clone, Copy, PartialEq, Eq)]
+#[derive(Clone, Copy)]
 enum Word {
     Later,
     Since,
