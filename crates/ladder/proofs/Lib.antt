@@ -4,3 +4,4 @@ pub mod Laws
 pub mod Counted
 pub mod SoFar
 pub mod Lent
+pub mod Stays

@@ -38,7 +38,8 @@ pub fn poll(
         extra,
     };
     let mut told = Log::new(log);
-    let t = poll_loop::passes(s, g, spread, &mut told);
-    poll_close::close(&t.state, g, t.ended, &mut told);
-    answer::finish(t.state, told.len(), t.count)
+    let mut left = s;
+    let t = poll_loop::passes(&mut left, g, spread, &mut told);
+    poll_close::close(&left, g, t.ended, &mut told);
+    answer::finish(left, told.len(), t.count)
 }

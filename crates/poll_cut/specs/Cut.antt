@@ -19,7 +19,6 @@ use Rattle.time.specs.Pick.{and}
 use Rattle.cycle.specs.Held.{is_own}
 use Rattle.cutover.specs.declared.Pend.{Pend}
 use Rattle.cutover.specs.Cutover.{cutover_of}
-use Rattle.poll_cut.specs.declared.Ran.{Ran}
 
 -- what an item leaves: the state, its events, and whether the link ends
 pub record Step : Type 0 where
@@ -29,8 +28,8 @@ pub record Step : Type 0 where
 
 -- what a function on the whole state promises that takes such a step: its state, its events behind those
 -- of the log, and whether the link ends
-abbrev pub Did : Step → Log → Ran → Log → Type 0
-Did t l r l' = (r.state ≡ t.state) × (Tells t.out l l' × (r.ended ≡ t.ends))
+abbrev pub Did : Step → Log → State → Bool → Log → Type 0
+Did t l s ends l' = (s ≡ t.state) × (Tells t.out l l' × (ends ≡ t.ends))
 
 abbrev pub stay : State → Step
 stay s = record { state = s; out = []; ends = false }

@@ -3,7 +3,7 @@
 // `Given` crosses to C, which gives the spread as an argument of its own.
 #![tactic(auto)]
 
-ghost use Rattle.std.specs.Prelude.{◌≡◌};
+ghost use Rattle.std.specs.Prelude.{◌≡◌, Bool};
 ghost use Rattle.time.specs.Pick.{pick};
 ghost use Rattle.numbers.specs.Cases.{evidence_no};
 ghost use Rattle.numbers.specs.Numbers.{abandon_revert_unconfirmed, abandon_peer_stayed_on_old};
@@ -19,31 +19,19 @@ use numbers::reason::Reason;
 use numbers::wait::Wait;
 use state::{Given, State};
 
-// What an item leaves: the state, and whether the link ends.
-#[derive(Clone, Copy)]
-pub struct Ran {
-    pub state: State,
-    pub ended: bool,
-}
-
 // A candidate that reached its deadline is dropped.
 #[tactic(auto, unfolding(crate::specs::Cut::candidate_due))]
-pub fn candidate_due(s: State, seq: u64, time: u64, log: &mut Log) -> Ran
-    ensures { Did (candidate_due s seq time) log.old result log.new }
+pub fn candidate_due(s: &mut State, seq: u64, time: u64, log: &mut Log)
+    ensures { Did (candidate_due s.old seq time) log.old s.new Bool.false log.new }
 {
-    let mut left = s;
-    if left.cands.expire(seq, time) {
+    if s.cands.expire(seq, time) {
         log.reject(Reason::CandidateExpired);
-    }
-    Ran {
-        state: left,
-        ended: false,
     }
 }
 
 // The pending epoch of an own completed attempt, taken out for a cutover.
-fn pend_of(c: Cycle) -> Pend
-    ensures { result ≡ pend_of c }
+fn pend_of(c: &Cycle) -> Pend
+    ensures { result ≡ pend_of c.now }
 {
     Pend {
         ep: c.pendi.ep,
@@ -54,41 +42,31 @@ fn pend_of(c: Cycle) -> Pend
 
 // A cutover without a frame: its evidence is a proof, an assumption or a delay.
 #[tactic(auto, unfolding(crate::specs::Cut::cut_by))]
-fn cut_by(s: State, g: Given, spread: i32, evidence: Evidence, log: &mut Log) -> Ran
-    ensures { Did (cut_by s g spread (evidence_no evidence)) log.old result log.new }
+fn cut_by(s: &mut State, g: Given, spread: i32, evidence: Evidence, log: &mut Log)
+    ensures { Did (cut_by s.old g spread (evidence_no evidence)) log.old s.new Bool.false log.new }
 {
-    Ran {
-        state: cutover::cutover(s, g, spread, pend_of(s.cycle), evidence, false, log),
-        ended: false,
-    }
+    let p = pend_of(&s.cycle);
+    *s = cutover::cutover(*s, g, spread, p, evidence, false, log);
 }
 
 // The completion itself proves the peer holds the keys. Apart from `delay_end`, which differs in the wait and
 // the evidence: a function of both would take these two more, and is one test and one call as well.
 #[tactic(auto, unfolding(crate::specs::Cut::held_due))]
-pub fn held_due(s: State, g: Given, spread: i32, tag: u64, log: &mut Log) -> Ran
-    ensures { Did (held_due s g spread tag) log.old result log.new }
+pub fn held_due(s: &mut State, g: Given, spread: i32, tag: u64, log: &mut Log)
+    ensures { Did (held_due s.old g spread tag) log.old s.new Bool.false log.new }
 {
     if s.cycle.is_own(tag) && s.cycle.pendi.waits() == Wait::Held {
-        return cut_by(s, g, spread, Evidence::Proof, log);
-    }
-    Ran {
-        state: s,
-        ended: false,
+        cut_by(s, g, spread, Evidence::Proof, log);
     }
 }
 
 // A delayed cutover's deadline.
 #[tactic(auto, unfolding(crate::specs::Cut::delay_end))]
-pub fn delay_end(s: State, g: Given, spread: i32, tag: u64, log: &mut Log) -> Ran
-    ensures { Did (delay_end s g spread tag) log.old result log.new }
+pub fn delay_end(s: &mut State, g: Given, spread: i32, tag: u64, log: &mut Log)
+    ensures { Did (delay_end s.old g spread tag) log.old s.new Bool.false log.new }
 {
     if s.cycle.is_own(tag) && s.cycle.pendi.waits() == Wait::Delay {
-        return cut_by(s, g, spread, Evidence::Delay, log);
-    }
-    Ran {
-        state: s,
-        ended: false,
+        cut_by(s, g, spread, Evidence::Delay, log);
     }
 }
 
@@ -104,43 +82,34 @@ fn cause(reverted: bool) -> Abandon
 }
 
 #[tactic(auto, using(retire::proofs::Told::tells_then), unfolding(crate::specs::Cut::unconfirmed))]
-fn unconfirmed_due(s: State, log: &mut Log) -> Ran
-    ensures { Did (unconfirmed s) log.old result log.new }
+fn unconfirmed_due(s: &mut State, log: &mut Log)
+    ensures { Did (unconfirmed s.old) log.old s.new Bool.false log.new }
 {
     retire::retire(s.cycle.pendi.ep, log);
     log.abandoned(cause(s.cycle.pendi.reverted));
-    let mut left = s;
-    left.cycle.kind = numbers::cycle::IDLE;
-    left.mem.due = true;
-    Ran {
-        state: left,
-        ended: false,
-    }
+    s.cycle.kind = numbers::cycle::IDLE;
+    s.mem.due = true;
 }
 
 #[tactic(auto, unfolding(crate::specs::Cut::assumed))]
-fn assumed_due(s: State, g: Given, spread: i32, log: &mut Log) -> Ran
-    ensures { Did (assumed_step s g spread) log.old result log.new }
+fn assumed_due(s: &mut State, g: Given, spread: i32, log: &mut Log)
+    ensures { Did (assumed_step s.old g spread) log.old s.new Bool.false log.new }
 {
-    let mut left = cut_by(s, g, spread, Evidence::Assumed, log);
-    left.state.cur.ep.assumed = true;
-    left
+    cut_by(s, g, spread, Evidence::Assumed, log);
+    s.cur.ep.assumed = true;
 }
 
 // The confirmation deadline of a completed own attempt.
 #[tactic(auto, unfolding(crate::specs::Cut::confirm_due))]
-pub fn confirm_due(s: State, g: Given, spread: i32, tag: u64, log: &mut Log) -> Ran
-    ensures { Did (confirm_due s g spread tag) log.old result log.new }
+pub fn confirm_due(s: &mut State, g: Given, spread: i32, tag: u64, log: &mut Log)
+    ensures { Did (confirm_due s.old g spread tag) log.old s.new Bool.false log.new }
 {
-    let pend = s.cycle.pendi;
-    if s.cycle.is_own(tag) && pend.waits() == Wait::Evidence && pend.deadline <= g.now {
-        if pend.stayed || pend.reverted {
-            return unconfirmed_due(s, log);
+    let c = &s.cycle;
+    if c.is_own(tag) && c.pendi.waits() == Wait::Evidence && c.pendi.deadline <= g.now {
+        if c.pendi.stayed || c.pendi.reverted {
+            unconfirmed_due(s, log);
+        } else {
+            assumed_due(s, g, spread, log);
         }
-        return assumed_due(s, g, spread, log);
-    }
-    Ran {
-        state: s,
-        ended: false,
     }
 }

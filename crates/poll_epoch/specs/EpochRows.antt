@@ -14,7 +14,6 @@ use Rattle.events.specs.Events.{Event, Send, Prompt, Abandoned}
 use Rattle.events.specs.declared.Log.{Log}
 use Rattle.events.specs.Told.{Tells}
 use Rattle.retire.specs.Retire.{only, retire_out}
-use Rattle.poll_epoch.specs.declared.Kept.{Kept}
 use Rattle.time.specs.Pick.{and}
 use Rattle.epoch.specs.Held.{is_tag}
 
@@ -31,8 +30,8 @@ pub record CurStep : Type 0 where
   pub due : Bool
 
 -- what a row of the current epoch promises: the epoch, its events, and whether a repair falls due
-abbrev pub DidCur : CurStep → Log → Kept → Log → Type 0
-DidCur t l r l' = (r.cur ≡ t.cur) × (Tells t.out l l' × (r.due ≡ t.due))
+abbrev pub DidCur : CurStep → Log → MayEpoch → Bool → Log → Type 0
+DidCur t l cur due l' = (cur ≡ t.cur) × (Tells t.out l l' × (due ≡ t.due))
 
 -- ---- Drain: the drained epoch is retired; without evidence that the peer moved, that is told
 

@@ -16,7 +16,6 @@ use Rattle.events.specs.Events.{Event}
 use Rattle.events.specs.declared.Log.{Log}
 use Rattle.events.specs.Told.{Tells}
 use Rattle.retire.proofs.Told.{tells_then}
-use Rattle.poll_cut.specs.declared.Ran.{Ran}
 use Rattle.poll_listing.specs.Listing.{pass_items}
 use Rattle.poll_pass.specs.Pass.{Work, work_of, pass_of, Runs}
 use Rattle.poll_pass.specs.Laws.{pass_after}
@@ -48,26 +47,26 @@ leaves_as s₀ g {y} {l = l} {l' = l'} {s = s} {ends = ends} {n = n} e f t =
 
 module _ (s₀ : State) (g : Given) (spread : ℤ) (l₀ : Log) where
   -- how far the passes have come: what is left from here gives the whole
-  pub record Along (p : ℕ) (listed : List Item) (r : Ran) (l : Log) : Type 0 where
+  pub record Along (p : ℕ) (listed : List Item) (s : State) (ends : Bool) (l : Log) : Type 0 where
     pub out : List Event
     pub tells : Tells out l₀ l
-    pub whole : three_passes s₀ g spread ≡ passes_of (3 - p) g spread listed (length listed) (work_of r.state out r.ended)
+    pub whole : three_passes s₀ g spread ≡ passes_of (3 - p) g spread listed (length listed) (work_of s out ends)
     pub room : length listed ≤ 40 * p
 
-  pub along_start : (listed : List Item) → listed ≡ [] → Along 0 listed (record { state = s₀; ended = false }) l₀
+  pub along_start : (listed : List Item) → listed ≡ [] → Along 0 listed s₀ false l₀
   unfolding three_passes
   along_start listed e =
-      subst (λ q. Along 0 q (record { state = s₀; ended = false }) l₀) (sym e)
+      subst (λ q. Along 0 q s₀ false l₀) (sym e)
       (record { out = []; tells = record { appends = refl; same_reference = refl }; whole = refl; room = omega arith })
 
-  module _ (p : ℕ) (listed : List Item) (r : Ran) (l : Log) (a : Along p listed r l) where
+  module _ (p : ℕ) (listed : List Item) (s : State) (ends : Bool) (l : Log) (a : Along p listed s ends l) where
     work : Work
-    work = work_of r.state a.out r.ended
+    work = work_of s a.out ends
 
-    finish : passes_of (3 - p) g spread listed (length listed) work ≡ ended work (length listed) → Leaves (three_passes s₀ g spread) l₀ r.state r.ended (length listed) l
+    finish : passes_of (3 - p) g spread listed (length listed) work ≡ ended work (length listed) → Leaves (three_passes s₀ g spread) l₀ s ends (length listed) l
     unfolding work
     finish e =
-        let q : ended (work_of r.state a.out r.ended) (length listed) ≡ three_passes s₀ g spread = sym (a.whole ∙ e) in
+        let q : ended (work_of s a.out ends) (length listed) ≡ three_passes s₀ g spread = sym (a.whole ∙ e) in
         record {
           state = ap (λ (t : Ended). t.work.state) q;
           tells = subst (λ (t : Ended). Tells t.work.out l₀ l) q a.tells;
@@ -76,23 +75,23 @@ module _ (s₀ : State) (g : Given) (spread : ℤ) (l₀ : Log) where
         }
 
     -- three passes are over
-    pub along_over : 3 ≤ p → Leaves (three_passes s₀ g spread) l₀ r.state r.ended (length listed) l
+    pub along_over : 3 ≤ p → Leaves (three_passes s₀ g spread) l₀ s ends (length listed) l
     along_over h =
         let k : 3 - p ≡ 0 = omega arith in
         finish (ap (λ n. passes_of n g spread listed (length listed) work) k ∙ passes_none g spread listed (length listed) work)
 
-    once : p < 3 → passes_of (3 - p) g spread listed (length listed) work ≡ pick r.ended (ended work (length listed)) (pick (eqb (length (items g spread listed (length listed) work)) 0) (ended work (length listed)) (left g spread listed (length listed) work (3 - (p + 1))))
+    once : p < 3 → passes_of (3 - p) g spread listed (length listed) work ≡ pick ends (ended work (length listed)) (pick (eqb (length (items g spread listed (length listed) work)) 0) (ended work (length listed)) (left g spread listed (length listed) work (3 - (p + 1))))
     unfolding work
     once h =
         let k : 3 - p ≡ suc (3 - (p + 1)) = omega arith in
         ap (λ n. passes_of n g spread listed (length listed) work) k ∙ passes-one g spread listed (length listed) work (3 - (p + 1))
 
     -- the link has ended
-    pub along_ended : p < 3 → r.ended ≡ true → Leaves (three_passes s₀ g spread) l₀ r.state r.ended (length listed) l
+    pub along_ended : p < 3 → ends ≡ true → Leaves (three_passes s₀ g spread) l₀ s ends (length listed) l
     along_ended h e =
         finish (once h ∙ ap (λ b. pick b (ended work (length listed)) (pick (eqb (length (items g spread listed (length listed) work)) 0) (ended work (length listed)) (left g spread listed (length listed) work (3 - (p + 1))))) e)
 
-    module _ (its : List Item) (collected : its ≡ pass_items listed r.state g.now) (h : p < 3) (live : r.ended ≡ false) where
+    module _ (its : List Item) (collected : its ≡ pass_items listed s g.now) (h : p < 3) (live : ends ≡ false) where
       after : Ended
       after = passes_of (3 - (p + 1)) g spread (noting listed its) (length listed + length its) (pass_of g spread its work)
 
@@ -100,19 +99,19 @@ module _ (s₀ : State) (g : Given) (spread : ℤ) (l₀ : Log) where
       unfolding items left work after
       here =
           once h
-          ∙ (ap (λ b. pick b (ended work (length listed)) (pick (eqb (length (pass_items listed r.state g.now)) 0) (ended work (length listed)) (passes_of (3 - (p + 1)) g spread (noting listed (pass_items listed r.state g.now)) (length listed + length (pass_items listed r.state g.now)) (pass_of g spread (pass_items listed r.state g.now) work)))) live
+          ∙ (ap (λ b. pick b (ended work (length listed)) (pick (eqb (length (pass_items listed s g.now)) 0) (ended work (length listed)) (passes_of (3 - (p + 1)) g spread (noting listed (pass_items listed s g.now)) (length listed + length (pass_items listed s g.now)) (pass_of g spread (pass_items listed s g.now) work)))) live
           ∙ ap (λ q. pick (eqb (length q) 0) (ended work (length listed)) (passes_of (3 - (p + 1)) g spread (noting listed q) (length listed + length q) (pass_of g spread q work))) (sym collected))
 
       -- no item is left to list
-      pub along_none : eqb (length its) 0 ≡ true → Leaves (three_passes s₀ g spread) l₀ r.state r.ended (length listed) l
+      pub along_none : eqb (length its) 0 ≡ true → Leaves (three_passes s₀ g spread) l₀ s ends (length listed) l
       along_none e = finish (here ∙ ap (λ b. pick b (ended work (length listed)) after) e)
 
       -- one pass more
       pub along-next :
-          eqb (length its) 0 ≡ false → length its ≤ most → (listed' : List Item) → listed' ≡ listed ++ map untimed its → (r' : Ran) (l' : Log) → Runs (pass_of g spread its (work_of r.state [] r.ended)) l r' l'
-          → Along (p + 1) listed' r' l'
+          eqb (length its) 0 ≡ false → length its ≤ most → (listed' : List Item) → listed' ≡ listed ++ map untimed its → (s' : State) (ends' : Bool) (l' : Log) → Runs (pass_of g spread its (work_of s [] ends)) l s' ends' l'
+          → Along (p + 1) listed' s' ends' l'
       unfolding after work
-      along-next some fits listed' o r' l' q =
+      along-next some fits listed' o s' ends' l' q =
           record {
             out = a.out ++ w.out;
             tells = tells_then a.tells q.tells;
@@ -120,18 +119,18 @@ module _ (s₀ : State) (g : Given) (spread : ℤ) (l₀ : Log) where
                 a.whole
                 ∙ (here
                 ∙ (ap (λ b. pick b (ended work (length listed)) after) some
-                ∙ (ap₂ (λ d m. passes_of (3 - (p + 1)) g spread d m (pass_of g spread its (work_of r.state a.out r.ended))) (sym o) counted
+                ∙ (ap₂ (λ d m. passes_of (3 - (p + 1)) g spread d m (pass_of g spread its (work_of s a.out ends))) (sym o) counted
                 ∙ ap (passes_of (3 - (p + 1)) g spread listed' (length listed')) left-work)));
             room = let m : length listed' ≡ length listed + length its = sym counted in let y : length listed ≤ 40 * p = a.room in omega arith;
           }
         where
           w : Work
-          w = pass_of g spread its (work_of r.state [] r.ended)
+          w = pass_of g spread its (work_of s [] ends)
 
           counted : length listed + length its ≡ length listed'
           counted = sym (simp (length-append, length-map) at (ap length o))
 
-          left-work : pass_of g spread its (work_of r.state a.out r.ended) ≡ work_of r'.state (a.out ++ w.out) r'.ended
+          left-work : pass_of g spread its (work_of s a.out ends) ≡ work_of s' (a.out ++ w.out) ends'
           left-work =
-              pass_after g spread its r.state a.out r.ended
+              pass_after g spread its s a.out ends
               ∙ sym (ap₂ (λ x b. work_of x (a.out ++ w.out) b) q.state q.ends)

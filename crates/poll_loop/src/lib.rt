@@ -5,40 +5,34 @@ ghost use Rattle.poll_loop.specs.Passes.{three_passes, Leaves};
 
 use events::Log;
 use items::{Items, Listed};
-use poll_cut::Ran;
 use state::{Given, State};
 
-// What the passes leave: the state, whether the link ended, and how many items the passes listed.
+// What the passes tell beside the state that they leave: whether the link ended, and how many items they listed.
 #[derive(Clone, Copy)]
 pub struct Passed {
-    pub state: State,
     pub ended: bool,
     pub count: usize,
 }
 
 // At most three passes, left from inside where the link has ended or no item is left to list.
-pub fn passes(s: State, g: Given, spread: i32, log: &mut Log) -> Passed
-    ensures { Leaves (three_passes s g spread) log.old result.state result.ended result.count log.new }
+pub fn passes(s: &mut State, g: Given, spread: i32, log: &mut Log) -> Passed
+    ensures { Leaves (three_passes s.old g spread) log.old s.new result.ended result.count log.new }
 {
     let mut listed = Listed::new();
-    let mut left = Ran {
-        state: s,
-        ended: false,
-    };
+    let mut ended = false;
     'passes: for _pass in 0..3u8 {
-        if left.ended {
+        if ended {
             break 'passes;
         }
-        let items = poll_listing::collect(&left.state, g.now, &listed);
+        let items = poll_listing::collect(s, g.now, &listed);
         if items.is_empty() {
             break 'passes;
         }
         listed.extend(&items);
-        left = poll_pass::run(left.state, g, spread, &items, left.ended, log);
+        ended = poll_pass::run(s, g, spread, &items, ended, log);
     }
     Passed {
-        state: left.state,
-        ended: left.ended,
+        ended,
         count: listed.len(),
     }
 }

@@ -1,8 +1,8 @@
 -- Laws of a pass, for the loop over its items.
-use Rattle.std.specs.Prelude.{ℕ, ◌<◌, ◌≤◌, ◌+◌, Bool, true, ◌≡◌, List, [], ◌∷◌, ◌++◌, map, length, take, get_or, ℤ}
+use Rattle.std.specs.Prelude.{ℕ, ◌<◌, ◌+◌, Bool, true, false, ◌||◌, ◌≡◌, List, [], ◌∷◌, ◌++◌, map, length, take, get_or, ℤ}
 use Rattle.std.proofs.Math.Path.{refl, subst}
 use Rattle.std.proofs.Common.{sym, ◌∙◌, ap, append_assoc, append-nil}
-use Rattle.std.proofs.lemmas.List.{map-append, take_all, take_more}
+use Rattle.std.proofs.lemmas.List.{map-append, take_more}
 use Rattle.time.specs.Pick.{pick}
 use Rattle.time.specs.Lists.{fold, fold-append}
 use Rattle.numbers.specs.Cases.{kind_no}
@@ -15,10 +15,13 @@ use Rattle.events.specs.Events.{Event}
 use Rattle.events.specs.declared.Log.{Log}
 use Rattle.events.specs.Told.{Tells}
 use Rattle.retire.proofs.Told.{tells_then}
-use Rattle.poll_cut.specs.declared.Ran.{Ran}
 use Rattle.poll_cut.specs.Cut.{Step, Did}
 use Rattle.poll_item.specs.Item.{item_step}
 use Rattle.poll_pass.specs.Pass.{Work, work_of, did, run_item, pass_of, Runs}
+
+either : (a b : Bool) → (a || b) ≡ pick a true b
+either true b = refl
+either false b = refl
 
 module _ (g : Given) (spread : ℤ) where
   -- one item and then the rest
@@ -37,7 +40,7 @@ module _ (g : Given) (spread : ℤ) where
   pass_untimed (i ∷ l) w = pass_untimed l (run_item g spread w i)
 
   -- no item yet
-  pub runs_none : (s : State) (ended : Bool) (l : Log) → Runs (pass_of g spread [] (work_of s [] ended)) l (record { state = s; ended = ended }) l
+  pub runs_none : (s : State) (ended : Bool) (l : Log) → Runs (pass_of g spread [] (work_of s [] ended)) l s ended l
   unfolding pass_of fold
   runs_none s ended l = record { state = refl; tells = record { appends = refl; same_reference = refl }; ends = refl }
 
@@ -50,28 +53,20 @@ module _ (g : Given) (spread : ℤ) where
 
   -- one item more
   pub runs-next :
-      (xs : List Timed) (i : ℕ) (d : Timed) (w : Work) {l m n : Log} {r t : Ran} (r' : Ran) → i < length xs → Runs (pass_of g spread (map item_of (take i xs)) w) l r m
-      → Did (item_step r.state g spread (kind_no (get_or xs i d).due.kind) (get_or xs i d).due.key) m t n → r'.state ≡ t.state → r'.ended ≡ pick r.ended true t.ended
-      → Runs (pass_of g spread (map item_of (take (i + 1) xs)) w) l r' n
+      (xs : List Timed) (i : ℕ) (d : Timed) (w : Work) {l m n : Log} {s s' : State} {b ends : Bool} → i < length xs → Runs (pass_of g spread (map item_of (take i xs)) w) l s b m
+      → Did (item_step s g spread (kind_no (get_or xs i d).due.kind) (get_or xs i d).due.key) m s' ends n
+      → Runs (pass_of g spread (map item_of (take (i + 1) xs)) w) l s' (b || ends) n
   unfolding run_item
-  runs-next xs i d w {l} {m} {n} {r} {t} r' h p q e f =
+  runs-next xs i d w {l} {m} {n} {s} {s'} {b} {ends} h p q =
       let x : Item = item_of (get_or xs i d) in
       let here : State → Step = λ s. item_step s g spread x.kind x.key in
       let v : Work = pass_of g spread (map item_of (take i xs)) w in
-      subst (λ (o : Work). Runs o l r' n) (sym (pass-next xs i d w h))
+      subst (λ (o : Work). Runs o l s' (b || ends) n) (sym (pass-next xs i d w h))
       (record {
-        state = e ∙ (q.0 ∙ ap (λ s. (here s).state) p.state);
+        state = q.0 ∙ ap (λ s. (here s).state) p.state;
         tells = subst (λ s. Tells (v.out ++ (here s).out) l n) p.state (tells_then p.tells q.1.0);
-        ends = f ∙ (ap (λ b. pick r.ended true b) q.1.1 ∙ (ap (λ s. pick r.ended true (here s).ends) p.state ∙ ap (λ b. pick b true (here v.state).ends) p.ends));
+        ends = either b ends ∙ (ap (λ a. pick b true a) q.1.1 ∙ (ap (λ s. pick b true (here s).ends) p.state ∙ ap (λ a. pick a true (here v.state).ends) p.ends));
       })
-
-  -- the items are done; z is the spread as the function was given it
-  pub runs_all :
-      (xs : List Timed) (its : List Item) (i : ℕ) (w : Work) {l m : Log} {r : Ran} (z : ℤ) → spread ≡ z → length xs ≤ i → map item_of xs ≡ its → Runs (pass_of g spread (map item_of (take i xs)) w) l r m
-      → Runs (pass_of g z its w) l r m
-  runs_all xs its i w {l} {m} {r} z y h e p =
-      subst (λ x. Runs (pass_of g x its w) l r m) y
-      (subst (λ q. Runs (pass_of g spread q w) l r m) (ap (map item_of) (take_all i xs h) ∙ e) p)
 
 -- ---- events that were there before a pass stay in front
 

@@ -8,7 +8,6 @@ use Rattle.state.specs.declared.Given.{Given}
 use Rattle.events.specs.Events.{Event}
 use Rattle.events.specs.declared.Log.{Log}
 use Rattle.events.specs.Told.{Tells}
-use Rattle.poll_cut.specs.declared.Ran.{Ran}
 use Rattle.poll_cut.specs.Cut.{Step}
 use Rattle.poll_item.specs.Item.{item_step}
 
@@ -36,7 +35,7 @@ pass_of g spread items w = fold (run_item g spread) w items
 -- ---- what the functions promise
 
 -- the work is done: its state, its events behind those of the log, and whether the link has ended
-pub record Runs (w : Work) (l : Log) (r : Ran) (l' : Log) : Type 0 where
-  pub state : r.state ≡ w.state
+pub record Runs (w : Work) (l : Log) (s : State) (ended : Bool) (l' : Log) : Type 0 where
+  pub state : s ≡ w.state
   pub tells : Tells w.out l l'
-  pub ends : r.ended ≡ w.ended
+  pub ends : ended ≡ w.ended

@@ -6,4 +6,4 @@ use Rattle.poll_pass.proofs.run.Given as goal
 -- The items so far are done.
 abbrev pub invariant-loop-item : goal.invariant-loop-item
 invariant-loop-item l =
-    Runs (pass_of l.g l.spread (map item_of (take l.item-index l.item-items)) (work_of l.initial.left.state [] l.initial.left.ended)) l.initial.log l.left l.log
+    Runs (pass_of l.g l.spread (map item_of (take l.item-index l.item-items)) (work_of l.initial.s [] l.initial.ended)) l.initial.log l.s l.ended l.log
