@@ -2,7 +2,7 @@
 // stands on them.
 ghost use Rattle.std.specs.Prelude.{◌≡◌, ◌+◌, ◌≤◌, length, drop, IfSome};
 ghost use Rattle.text.specs.Bytes.{index_of};
-ghost use Rattle.text.specs.Fields.{Within, field_at, bytes_at, ordinal_of};
+ghost use Rattle.text.specs.Fields.{Within, field_at, ordinal_of};
 
 // A field lies from `start` to `end`; `next` is where the field after it starts.
 #[derive(Clone, Copy)]
@@ -32,11 +32,9 @@ fn first(s: &[u8], b: u8) -> usize
     s.iter().position(|x| *x == b).unwrap_or(s.len())
 }
 
-// The field that starts at `at`. Fields are separated by single spaces, so a field may be empty,
-// and a line that ends with a space has an empty field at its end. There is none past the end of
-// the line.
+// The field that starts at `at`. There is none past the end of the line.
 #[tactic(auto, unfolding(crate::specs::Fields::field_at))]
-pub fn next_field(line: &[u8], at: usize) -> Option<Field>
+pub(crate) fn next_field(line: &[u8], at: usize) -> Option<Field>
     ensures value { result ≡ field_at line.now at }
     ensures within { IfSome result (Within line.now at) }
 {
@@ -51,17 +49,8 @@ pub fn next_field(line: &[u8], at: usize) -> Option<Field>
     })
 }
 
-// The bytes of the field that starts at `at`; none where there is no such field.
-pub fn field_bytes(line: &[u8], at: usize) -> &[u8]
-    ensures { result.now ≡ bytes_at line.now at }
-{
-    match next_field(line, at) {
-        Some(field) => &line[field.start..field.end],
-        None => &[],
-    }
-}
-
-// The number, from 1, of the field that starts at `at`, or would start there behind the end.
+// The number, from 1, of the field that starts at `at`, or would start there behind the end. It is no
+// method of a scan, since a sentence also names the field before the one at which a scan stands.
 pub fn ordinal(line: &[u8], at: usize) -> usize
     ensures { result ≡ ordinal_of line.now at }
 {

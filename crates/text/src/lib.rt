@@ -9,5 +9,5 @@ mod scan;
 mod signed;
 
 pub use fault::Fault;
-pub use field::{Field, field_bytes, find, next_field, ordinal};
+pub use field::{Field, find, ordinal};
 pub use scan::Scan;

@@ -2,7 +2,7 @@
 ghost use Rattle.std.specs.Prelude.{◌≡◌, map, IfOk, IfErr};
 ghost use Rattle.std.specs.Option.{is_some};
 ghost use Rattle.std.specs.Result.{result_ok};
-ghost use Rattle.text.specs.Fields.{Within, field_at};
+ghost use Rattle.text.specs.Fields.{Within, field_at, bytes_at};
 ghost use Rattle.text.specs.declared.fault.Fault.TheVariants.{Missing};
 ghost use Rattle.text.specs.Scans.{number_at, signed_at, optional_at, accept_at, word_at, entry_at, end_at, place_after, place_where, place_of, entry_of};
 
@@ -28,13 +28,24 @@ impl<'a> Scan<'a> {
         Scan { line, at: 0 }
     }
 
-    // The next field.
-    fn field(&self) -> Result<Field, Fault>
+    // The next field. Fields are separated by single spaces, so a field may be empty, and a line that ends
+    // with a space has an empty field at its end.
+    pub fn field(&self) -> Result<Field, Fault>
         ensures value { result_ok result ≡ field_at self.now.line.now self.now.at }
         ensures missing { IfErr result (λ fault. fault ≡ Missing) }
         ensures within { IfOk result (Within self.now.line.now self.now.at) }
     {
         next_field(self.line, self.at).ok_or(Fault::Missing)
+    }
+
+    // The bytes of the next field; none where there is no such field.
+    pub fn bytes(&self) -> &'a [u8]
+        ensures { result.now ≡ bytes_at self.now.line.now self.now.at }
+    {
+        match self.field() {
+            Ok(field) => &self.line[field.start..field.end],
+            Err(_) => &[],
+        }
     }
 
     // Reads a number from 0 to `most`.

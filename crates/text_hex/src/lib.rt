@@ -22,7 +22,7 @@ pub fn read(scan: &mut Scan<'_>, into: &mut [u8]) -> Result<usize, Fault>
     if scan.accept(b"-") {
         return Ok(0);
     }
-    let field = text::next_field(scan.line, scan.at).ok_or(Fault::Missing)?;
+    let field = scan.field()?;
     let n = read_field(&scan.line[field.start..field.end], into)?;
     scan.at = field.next;
     Ok(n)

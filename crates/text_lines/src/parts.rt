@@ -69,12 +69,10 @@ pub struct Named<'a>(pub &'a Scan<'a>);
 
 impl fmt::Display for Named<'_> {
     fn fmt<W: fmt::Write>(&self, f: &mut fmt::Formatter<W>) -> fmt::Result {
-        let line = self.0.line;
-        let at = self.0.at;
-        let number = text::ordinal(line, at);
+        let number = text::ordinal(self.0.line, self.0.at);
         write!(f, "field {number}")?;
-        if at <= line.len() {
-            let word = Quoted(text::field_bytes(line, at));
+        if self.0.field().is_ok() {
+            let word = Quoted(self.0.bytes());
             write!(f, ", {word},")?;
         }
         Ok(())

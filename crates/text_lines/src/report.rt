@@ -29,7 +29,7 @@ pub fn tell_fault(rt: &impl Eprint, number: u64, scan: &Scan<'_>, fault: Fault) 
 pub fn tell_most(rt: &impl Eprint, number: u64, scan: &Scan<'_>, fault: Fault, most: u64) {
     if fault != Fault::TooLarge {
         tell_fault(rt, number, scan, fault);
-    } else if text::field_bytes(scan.line, scan.at).starts_with(b"-") {
+    } else if scan.bytes().starts_with(b"-") {
         tell_field(rt, number, scan, "is too small: at least -2147483648.");
     } else {
         tell_field(
@@ -51,7 +51,7 @@ pub fn tell_choice(
     words: &[&[u8]],
 ) {
     let words = Choice(words);
-    if scan.at <= scan.line.len() {
+    if scan.field().is_ok() {
         tell_field(rt, number, scan, format_args!("is not {what}: {words}."));
     } else {
         tell_field(rt, number, scan, format_args!("is missing: {words}."));
@@ -66,7 +66,7 @@ pub fn tell_missing(
     fault: Fault,
     what: impl Display + Drop,
 ) {
-    if scan.at <= scan.line.len() {
+    if scan.field().is_ok() {
         tell_fault(rt, number, scan, fault);
     } else {
         tell_field(rt, number, scan, format_args!("is missing: {what}."));
@@ -75,7 +75,7 @@ pub fn tell_missing(
 
 // The field at which the scan stands, and the words: `line 7: field 3, "abc", ` and `words`.
 pub fn tell_about(rt: &impl Eprint, number: u64, scan: &Scan<'_>, words: impl Display + Drop) {
-    if scan.at <= scan.line.len() {
+    if scan.field().is_ok() {
         tell_field(rt, number, scan, words);
     } else {
         tell_fault(rt, number, scan, Fault::Missing);
@@ -140,10 +140,10 @@ fn tell_field(rt: &impl Eprint, number: u64, scan: &Scan<'_>, words: impl Displa
 }
 
 fn oddity(scan: &Scan<'_>) -> Option<Odd> {
-    if scan.line.len() < scan.at {
+    if scan.field().is_err() {
         return None;
     }
-    let word = text::field_bytes(scan.line, scan.at);
+    let word = scan.bytes();
     if word.is_empty() {
         return Some(Odd::Empty);
     }
