@@ -1,4 +1,8 @@
 // Values of a line, one after another.
+ghost use Rattle.std.specs.Prelude.{ℕ, ◌≡◌, List, true, false};
+ghost use Rattle.text.specs.Scans.{number_at, accept_at, place_after, place_where};
+ghost use Rattle.text_form.specs.Readings.{absent_word, optional_at};
+
 use epoch::{Final, Index, MayLadder};
 use ladder::Ladder;
 use state::Bit;
@@ -33,7 +37,11 @@ pub const KINDS: [&[u8]; 4] = [b"idle", b"init", b"pendi", b"pendr"];
 
 // What is done with each field of a record, in their order.
 pub trait Fields {
-    fn field(&mut self, name: &'static [u8], slot: Slot<'_>) -> Result<(), Fault>;
+    // The line that is gone over, if one is: it stays as it is.
+    ghost line: { Self → List ℕ };
+
+    fn field(&mut self, name: &'static [u8], slot: Slot<'_>) -> Result<(), Fault>
+        ensures { line self.new ≡ line self.old };
 }
 
 // How far a line is read, the most that the last number could be, whether the line claims more than is
@@ -44,11 +52,13 @@ pub struct Reader<'a> {
     pub scan: Scan<'a>,
     pub most: u64,
     pub cut: bool,
-    pub named: bool,
+    pub(crate) named: bool,
 }
 
 // A reader by place.
 impl Fields for Reader<'_> {
+    ghost line = { λ r. r.scan.line.now };
+
     fn field(&mut self, name: &'static [u8], slot: Slot<'_>) -> Result<(), Fault> {
         if let Slot::Word = slot {
             return self.word(name);
@@ -58,7 +68,11 @@ impl Fields for Reader<'_> {
 }
 
 impl<'a> Reader<'a> {
-    pub fn by_place(scan: Scan<'a>) -> Reader<'a> {
+    pub fn by_place(scan: Scan<'a>) -> Reader<'a>
+        ensures scan { result.scan ≡ scan.entry }
+        ensures named { result.named ≡ false }
+        ensures cut { result.cut ≡ false }
+    {
         Reader {
             scan,
             most: time::END,
@@ -67,7 +81,11 @@ impl<'a> Reader<'a> {
         }
     }
 
-    pub fn by_name(scan: Scan<'a>) -> Reader<'a> {
+    pub(crate) fn by_name(scan: Scan<'a>) -> Reader<'a>
+        ensures scan { result.scan ≡ scan.entry }
+        ensures named { result.named ≡ true }
+        ensures cut { result.cut ≡ false }
+    {
         Reader {
             scan,
             most: time::END,
@@ -76,7 +94,9 @@ impl<'a> Reader<'a> {
         }
     }
 
-    pub fn read(&mut self, slot: Slot<'_>) -> Result<(), Fault> {
+    pub fn read(&mut self, slot: Slot<'_>) -> Result<(), Fault>
+        ensures { self.new.scan.line ≡ self.old.scan.line }
+    {
         match slot {
             Slot::Number(n) => *n = self.number(time::END)?,
             Slot::Byte(n, most) => *n = byte(self.number(u64::from(most))?),
@@ -85,7 +105,7 @@ impl<'a> Reader<'a> {
             Slot::Flag(on) => *on = self.number(1)? == 1,
             Slot::Signed(n) => *n = self.signed()?,
             Slot::Bit(b) => *b = self.bit()?,
-            Slot::When(w) => *w = when(self.optional(time::END)?),
+            Slot::When(w) => *w = self.optional(time::END)?.into(),
             Slot::Index(x) => *x = self.index()?,
             Slot::Ladder(l) => *l = self.ladder()?,
             Slot::MayLadder(l) => *l = self.may_ladder()?,
@@ -98,18 +118,29 @@ impl<'a> Reader<'a> {
     }
 
     // A number up to `most`.
-    pub fn number(&mut self, most: u64) -> Result<u64, Fault> {
+    pub fn number(&mut self, most: u64) -> Result<u64, Fault>
+        ensures value { result ≡ number_at self.old.scan.line.now self.old.scan.at most }
+        ensures line { self.new.scan.line ≡ self.old.scan.line }
+        ensures at { self.new.scan.at ≡ place_after self.old.scan.line.now self.old.scan.at result }
+        ensures most { self.new.most ≡ most }
+    {
         self.most = most;
         self.scan.number(most)
     }
 
-    pub fn signed(&mut self) -> Result<i32, Fault> {
+    // A number from -2^31 to 2^31 - 1.
+    pub(crate) fn signed(&mut self) -> Result<i32, Fault>
+        ensures { self.new.scan.line ≡ self.old.scan.line }
+    {
         self.most = 2147483647;
         self.scan.signed()
     }
 
     // A number up to `most`, or the word for an absent value.
-    pub fn optional(&mut self, most: u64) -> Result<Option<u64>, Fault> {
+    pub fn optional(&mut self, most: u64) -> Result<Option<u64>, Fault>
+        ensures value { result ≡ optional_at self.old.named self.old.scan.line.now self.old.scan.at most }
+        ensures line { self.new.scan.line ≡ self.old.scan.line }
+    {
         if self.absent() {
             return Ok(None);
         }
@@ -117,27 +148,37 @@ impl<'a> Reader<'a> {
     }
 
     // Moves past the word for an absent value where it stands there.
-    fn absent(&mut self) -> bool {
+    fn absent(&mut self) -> bool
+        ensures value { result ≡ accept_at self.old.scan.line.now self.old.scan.at (absent_word self.old.named) }
+        ensures line { self.new.scan.line ≡ self.old.scan.line }
+        ensures at { self.new.scan.at ≡ place_where self.old.scan.line.now self.old.scan.at result }
+    {
         if self.named {
             return self.scan.accept(b"none");
         }
         self.scan.accept(b"-")
     }
 
-    fn word(&mut self, word: &'static [u8]) -> Result<(), Fault> {
+    fn word(&mut self, word: &'static [u8]) -> Result<(), Fault>
+        ensures { self.new.scan.line ≡ self.old.scan.line }
+    {
         self.scan.word(&[word])?;
         Ok(())
     }
 
     // `+` or `-`. By name a record has no `+`: its fields follow.
-    fn there(&mut self) -> Result<bool, Fault> {
+    fn there(&mut self) -> Result<bool, Fault>
+        ensures { self.new.scan.line ≡ self.old.scan.line }
+    {
         if self.named {
             return Ok(!self.absent());
         }
         Ok(self.scan.word(&[b"-", b"+"])? == 1)
     }
 
-    fn bit(&mut self) -> Result<Bit, Fault> {
+    fn bit(&mut self) -> Result<Bit, Fault>
+        ensures { self.new.scan.line ≡ self.old.scan.line }
+    {
         let n = self.optional(1)?;
         Ok(Bit {
             some: n.is_some(),
@@ -145,7 +186,9 @@ impl<'a> Reader<'a> {
         })
     }
 
-    fn index(&mut self) -> Result<Index, Fault> {
+    fn index(&mut self) -> Result<Index, Fault>
+        ensures { self.new.scan.line ≡ self.old.scan.line }
+    {
         let n = self.optional(4294967295)?;
         Ok(Index {
             some: n.is_some(),
@@ -153,33 +196,36 @@ impl<'a> Reader<'a> {
         })
     }
 
-    fn may_ladder(&mut self) -> Result<MayLadder, Fault> {
-        let mut may = MayLadder {
-            some: self.there()?,
-            ladder: empty(),
-        };
-        if may.some {
-            may.ladder = self.ladder()?;
+    fn may_ladder(&mut self) -> Result<MayLadder, Fault>
+        ensures { self.new.scan.line ≡ self.old.scan.line }
+    {
+        if !self.there()? {
+            return Ok(MayLadder::NONE);
         }
-        Ok(may)
+        Ok(MayLadder {
+            some: true,
+            ladder: self.ladder()?,
+        })
     }
 
-    fn fin(&mut self) -> Result<Final, Fault> {
-        let mut fin = Final {
-            some: self.there()?,
-            msg: 0,
-            ladder: empty(),
-        };
-        if fin.some {
-            fin.msg = self.number(time::END)?;
-            fin.ladder = self.ladder()?;
+    fn fin(&mut self) -> Result<Final, Fault>
+        ensures { self.new.scan.line ≡ self.old.scan.line }
+    {
+        if !self.there()? {
+            return Ok(Final::NONE);
         }
-        Ok(fin)
+        Ok(Final {
+            some: true,
+            msg: self.number(time::END)?,
+            ladder: self.ladder()?,
+        })
     }
 
     // The origin, the cursor, the length, the keepalive map, and the offsets.
-    fn ladder(&mut self) -> Result<Ladder, Fault> {
-        let mut read = empty();
+    fn ladder(&mut self) -> Result<Ladder, Fault>
+        ensures { self.new.scan.line ≡ self.old.scan.line }
+    {
+        let mut read = Ladder::EMPTY;
         read.origin = self.number(time::END)?;
         let next = self.number(time::END)?;
         let len = self.number(time::END)?;
@@ -192,37 +238,19 @@ impl<'a> Reader<'a> {
     }
 
     // Reads `n` offsets and keeps the first MAX_RUNGS.
-    fn offsets(&mut self, n: u64, at: &mut [u64; ladder::MAX_RUNGS]) -> Result<(), Fault> {
+    fn offsets(&mut self, n: u64, at: &mut [u64; ladder::MAX_RUNGS]) -> Result<(), Fault>
+        ensures { self.new.scan.line ≡ self.old.scan.line }
+    {
         for i in 0..n {
             let offset = self.number(time::END)?;
-            if i < ladder::MAX_COUNT {
-                at[i as usize] = offset;
+            if let Some(place) = at.get_mut(i as usize) {
+                *place = offset;
             }
         }
         Ok(())
     }
 }
 
-// A ladder without rungs.
-fn empty() -> Ladder {
-    Ladder {
-        origin: 0,
-        sched: ladder::Schedule {
-            at: [0; ladder::MAX_RUNGS],
-            keepalive: 0,
-            len: 0,
-        },
-        next: 0,
-    }
-}
-
 fn byte(n: u64) -> u8 {
     u8::try_from(n).unwrap_or(u8::MAX)
-}
-
-fn when(n: Option<u64>) -> When {
-    When {
-        some: n.is_some(),
-        at: n.unwrap_or(0),
-    }
 }

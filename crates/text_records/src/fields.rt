@@ -1,9 +1,14 @@
 // The state. Of a record that is absent, and of a case in which the cycle is not, the fields have no
 // meaning.
+ghost use Rattle.std.specs.Prelude.{◌≡◌, ◌<◌, Ok, true};
+ghost use Rattle.std.specs.Result.{OnOk};
+ghost use Rattle.text.specs.Scans.{end_at};
+
 use crate::Record;
 use candidates::Candidates;
 use cycle::{Attempt, Cycle, PendI, PendR};
 use epoch::{Drain, Epoch, MayEpoch};
+use numbers::cycle::Stage;
 use state::{Memory, State};
 use text::Fault;
 use text_form::{Fields, Reader, Slot};
@@ -37,7 +42,9 @@ impl Record for MayEpoch {
 }
 
 // A drained epoch that may be absent.
-fn drained_fields(d: &mut Drain, f: &mut impl Fields) -> Result<(), Fault> {
+fn drained_fields<F: Fields>(d: &mut Drain, f: &mut F) -> Result<(), Fault>
+    ensures { F.line f.new ≡ F.line f.old }
+{
     f.field(b"", Slot::There(&mut d.some))?;
     if d.some {
         return d.fields(f);
@@ -103,11 +110,11 @@ impl Record for Drain {
 impl Record for Cycle {
     fn fields<F: Fields>(&mut self, f: &mut F) -> Result<(), Fault> {
         f.field(b"", Slot::Cycle(&mut self.kind))?;
-        match self.kind {
-            numbers::cycle::INIT => self.init.fields(f),
-            numbers::cycle::PENDI => self.pendi.fields(f),
-            numbers::cycle::PENDR => self.pendr.fields(f),
-            _ => Ok(()),
+        match self.stage() {
+            Stage::Idle => Ok(()),
+            Stage::Init => self.init.fields(f),
+            Stage::PendI => self.pendi.fields(f),
+            Stage::PendR => self.pendr.fields(f),
         }
     }
 }
@@ -160,7 +167,13 @@ impl Record for Candidates {
 }
 
 // Candidate `i`, which stands in one array a field; past the 32nd there is none.
-pub fn candidate_fields(c: &mut Candidates, i: usize, f: &mut impl Fields) -> Result<(), Fault> {
+pub(crate) fn candidate_fields<F: Fields>(
+    c: &mut Candidates,
+    i: usize,
+    f: &mut F,
+) -> Result<(), Fault>
+    ensures { F.line f.new ≡ F.line f.old }
+{
     if 32 <= i {
         return Ok(());
     }
@@ -183,16 +196,22 @@ pub fn candidate_fields(c: &mut Candidates, i: usize, f: &mut impl Fields) -> Re
 
 // Reads what stands behind the word `state`, to the end of the line. The candidates past the 32nd are
 // read and not kept.
-pub fn read_state(reader: &mut Reader<'_>, s: &mut State) -> Result<(), Fault> {
+pub fn read_state(reader: &mut Reader<'_>, s: &mut State) -> Result<(), Fault>
+    ensures line { reader.new.scan.line.now ≡ reader.old.scan.line.now }
+    ensures end { OnOk result (end_at reader.new.scan.line.now reader.new.scan.at ≡ Ok tt) }
+    ensures cut { OnOk result (32 < s.new.cands.len → reader.new.cut ≡ true) }
+{
     s.fields(reader)?;
     if 32 < s.cands.len {
-        reader.cut = true;
         read_past(reader, s.cands)?;
+        reader.cut = true;
     }
     reader.scan.end()
 }
 
-fn read_past(reader: &mut Reader<'_>, cands: Candidates) -> Result<(), Fault> {
+fn read_past(reader: &mut Reader<'_>, cands: Candidates) -> Result<(), Fault>
+    ensures { reader.new.scan.line.now ≡ reader.old.scan.line.now }
+{
     let mut past = cands;
     for _ in 32..cands.len {
         candidate_fields(&mut past, 0, reader)?;

@@ -1,4 +1,6 @@
 // What is given beside a state, in the order of the replay format.
+ghost use Rattle.std.specs.Prelude.{◌≡◌};
+
 use crate::Record;
 use settings::Config;
 use state::Profile;
@@ -22,7 +24,9 @@ impl Record for Config {
     }
 }
 
-fn age_fields(cfg: &mut Config, f: &mut impl Fields) -> Result<(), Fault> {
+fn age_fields<F: Fields>(cfg: &mut Config, f: &mut F) -> Result<(), Fault>
+    ensures { F.line f.new ≡ F.line f.old }
+{
     f.field(b"young", Slot::Number(&mut cfg.young))?;
     f.field(b"link_age", Slot::Number(&mut cfg.link_age))?;
     f.field(b"session_age", Slot::Number(&mut cfg.session_age))?;

@@ -1,4 +1,7 @@
 // The lines whose fields have names.
+ghost use Rattle.std.specs.Prelude.{◌≡◌, false};
+ghost use Rattle.text_records.specs.Parts.{name_of, is_memory, is_current, is_drained, is_cycle, is_candidate};
+
 use crate::blank::{blank_state, plain_profile};
 use crate::fields::candidate_fields;
 use crate::record::{Record, name_record};
@@ -22,7 +25,9 @@ pub enum Part {
 
 impl Part {
     // The first word of the line.
-    pub fn name(self) -> &'static [u8] {
+    pub fn name(self) -> &'static [u8]
+        ensures { result.now ≡ name_of self }
+    {
         match self {
             Part::Settings => b"set",
             Part::Profile => b"profile",
@@ -69,7 +74,16 @@ impl Record for Last {
 
 // Changes the fields of a part of the state that a line names; a candidate is the last that is held.
 // The settings and the profile are no parts of a state.
-pub fn name_part(named: &mut Named<'_>, part: Part, s: &mut State) -> Result<(), Fault> {
+pub fn name_part(named: &mut Named<'_>, part: Part, s: &mut State) -> Result<(), Fault>
+    ensures line { named.new.reader.scan.line.now ≡ named.old.reader.scan.line.now }
+    ensures memory { is_memory part ≡ false → s.new.mem ≡ s.old.mem }
+    ensures current { is_current part ≡ false → s.new.cur ≡ s.old.cur }
+    ensures current_there { s.new.cur.some ≡ s.old.cur.some }
+    ensures drained { is_drained part ≡ false → s.new.drain ≡ s.old.drain }
+    ensures cycle { is_cycle part ≡ false → s.new.cycle ≡ s.old.cycle }
+    ensures kind { s.new.cycle.kind ≡ s.old.cycle.kind }
+    ensures candidates { is_candidate part ≡ false → s.new.cands ≡ s.old.cands }
+{
     match part {
         Part::Settings | Part::Profile => Ok(()),
         Part::Memory => name_record(named, &mut s.mem),

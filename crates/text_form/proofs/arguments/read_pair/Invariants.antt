@@ -1,0 +1,8 @@
+use Rattle.std.proofs.Common.{◌≡◌, drop}
+use Rattle.text_words.specs.Places.{widths}
+use Rattle.text_form.proofs.Rows.{Within}
+use Rattle.text_form.proofs.arguments.read_pair.Given as goal
+
+-- The arguments so far moved the row on by their places.
+abbrev pub invariant-loop-a : goal.invariant-loop-a
+invariant-loop-a l = (Within (widths l.a-items) l.initial.places l.places (drop l.a-index l.a-items)) × (l.named.reader.scan.line ≡ l.initial.named.reader.scan.line)
