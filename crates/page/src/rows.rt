@@ -1,5 +1,7 @@
 // The rows that the lists want, one after another: those of every list by number, then the settings
 // and the profile with their defaults.
+ghost use Rattle.std.specs.Prelude.{[]};
+
 use settings::Config;
 use text::Fault;
 use text_form::{Fields, Slot};
@@ -108,6 +110,8 @@ impl Finder {
 }
 
 impl Fields for Finder {
+    ghost line = { λ _. [] };
+
     fn field(&mut self, name: &'static [u8], slot: Slot<'_>) -> Result<(), Fault> {
         if self.left == 0 && self.found.is_none() {
             self.found = Some(Head::Default(name, value(slot)));

@@ -64,7 +64,7 @@ impl<R: Eprint> Refused<'_, R> {
                 words.what,
                 &[words.one, words.zero],
             ),
-            _ => self.tell_named(call.name(), &Names::of_call(call), fault),
+            _ => self.tell_named(call.name(), &Names::of(call.arguments()), fault),
         }
     }
 

@@ -1,6 +1,5 @@
 -- A row filled along a list of arguments.
-use Rattle.std.proofs.Common.{ℕ, ◌≡◌, ◌+◌, ◌≤◌, ◌<◌, List, [], ◌∷◌, drop, length, set, ap, sym, ◌∙◌, refl, arith}
-use Rattle.std.proofs.lemmas.List.{drop-set-lt, length-set}
+use Rattle.std.proofs.Common.{ℕ, ◌≡◌, ◌+◌, ◌≤◌, List, ◌∷◌, drop, length, ◌∙◌, refl, arith}
 use Rattle.text_words.specs.declared.Argument.{Argument}
 use Rattle.text_words.specs.Places.{width_of, widths}
 use Rattle.text_form.specs.declared.arguments.Row.{Row}

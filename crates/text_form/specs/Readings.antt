@@ -1,5 +1,5 @@
 -- What the values of a line are read as, and where the reader stands then.
-use Rattle.std.specs.Prelude.{ℕ, ◌≡◌, Bool, true, cond, List, [], ◌∷◌, Option, None, Result, Ok}
+use Rattle.std.specs.Prelude.{ℕ, Bool, cond, List, [], ◌∷◌, Option, None, Result, Ok}
 use Rattle.text.specs.declared.fault.Fault.{Fault}
 use Rattle.text.specs.Scans.{accept_at, number_at, some_of}
 

@@ -1,5 +1,5 @@
 -- A row that is filled from its front.
-use Rattle.std.specs.Prelude.{ℕ, ◌≡◌, ◌+◌, ◌≤◌, List, drop, length}
+use Rattle.std.specs.Prelude.{ℕ, ◌≡◌, ◌+◌, ◌≤◌, drop, length}
 use Rattle.text_form.specs.declared.arguments.Row.{Row}
 
 -- the next place moves on by n at most, and what stands behind those n places stays

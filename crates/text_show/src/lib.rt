@@ -33,6 +33,8 @@ struct Writer<'w, 'r, 'b, R> {
 }
 
 impl<R: Print> Fields for Writer<'_, '_, '_, R> {
+    ghost line = { λ _. [] };
+
     fn field(&mut self, name: &'static [u8], slot: Slot<'_>) -> Result<(), Fault> {
         if let Slot::Word = slot {
             self.word(name);

@@ -1,4 +1,4 @@
-use Rattle.std.proofs.Common.{◌≡◌, drop}
+use Rattle.std.proofs.Common.{drop}
 use Rattle.text_words.specs.Places.{widths}
 use Rattle.text_form.proofs.Rows.{Within}
 use Rattle.text_form.proofs.arguments.prepare.Given as goal
