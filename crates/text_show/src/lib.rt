@@ -15,12 +15,17 @@ use text_records::Record;
 
 // Writes what stands behind the word `state`. Of a ladder only the offsets below its length are written,
 // and its keepalive map whole, as the Rust shows it.
-pub fn write_state<R: Print>(out: &mut Output<'_, '_, R>, s: State) {
+pub fn write_state<R: Print>(out: &mut Output<'_, '_, R>, s: State)
+    ensures { out.new.buffer.ghost_name ≡ out.old.buffer.ghost_name }
+{
     let mut writer = Writer { out, first: true };
     write_fields(&mut writer, s);
 }
 
-fn write_fields<R: Print>(writer: &mut Writer<'_, '_, '_, R>, s: State) {
+fn write_fields<R: Print>(writer: &mut Writer<'_, '_, '_, R>, s: State)
+    ensures same_output { writer.new.out.ghost_name ≡ writer.old.out.ghost_name }
+    ensures same_reference { writer.new.out.now.buffer.ghost_name ≡ writer.old.out.now.buffer.ghost_name }
+{
     let mut shown = s;
     let _ = shown.fields(writer);
 }
@@ -33,7 +38,8 @@ struct Writer<'w, 'r, 'b, R> {
 }
 
 impl<R: Print> Fields for Writer<'_, '_, '_, R> {
-    ghost line = { λ _. [] };
+    // The output and its buffer, by their names.
+    ghost line = { λ w. w.out.ghost_name ∷ w.out.now.buffer.ghost_name ∷ [] };
 
     fn field(&mut self, name: &'static [u8], slot: Slot<'_>) -> Result<(), Fault> {
         if let Slot::Word = slot {
@@ -46,7 +52,10 @@ impl<R: Print> Fields for Writer<'_, '_, '_, R> {
 }
 
 impl<R: Print> Writer<'_, '_, '_, R> {
-    fn write(&mut self, slot: Slot<'_>) {
+    fn write(&mut self, slot: Slot<'_>)
+        ensures same_output { self.new.out.ghost_name ≡ self.old.out.ghost_name }
+        ensures same_reference { self.new.out.now.buffer.ghost_name ≡ self.old.out.now.buffer.ghost_name }
+    {
         match slot {
             Slot::Number(n) => self.number(*n),
             Slot::Byte(n, _) => self.number(u64::from(*n)),
