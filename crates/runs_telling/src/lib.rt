@@ -2,7 +2,7 @@
 // them where they are asked for. No function has a `requires`.
 #![tactic(auto)]
 
-ghost use Rattle.std.specs.Prelude.{◌≡◌, None, [], ◌∷◌, replicate};
+ghost use Rattle.std.specs.Prelude.{◌≡◌, None, [], ◌∷◌};
 ghost use Rattle.text_lines.specs.Puts.{Puts, Begins};
 ghost use Rattle.text_words.specs.declared.Call.TheVariants.{Frame, Wake, Status};
 ghost use Rattle.text_words.specs.Calls.{call_no};
@@ -36,6 +36,7 @@ pub fn answer(
 ) -> Option<State>
     ensures wake { call ≡ Wake → (result ≡ None) × (Wakes head (wake_on link) out.old out.new) }
     ensures status { call ≡ Status → (result ≡ None) × (Shows head (status_on link a.now) out.old out.new) }
+    ensures frame { call ≡ Frame → Begins [] out.old out.new }
     ensures hands { (call ≡ Frame → ⊥) → (call ≡ Wake → ⊥) → (call ≡ Status → ⊥) → Hands head (answer_on (call_no call) link a.now (0 ∷ []) (0 ∷ [])) result out.old out.new }
 {
     match call {
@@ -58,7 +59,9 @@ fn frame(
     link: Link,
     head: Head,
     a: &[u64; ARGS],
-) -> Option<State> {
+) -> Option<State>
+    ensures { Begins [] out.old out.new }
+{
     let source = [0u8; 65536];
     let mut target = [0u8; 65536];
     let n = text_args::size(a, place::FRAME_SOURCE).min(65536);
