@@ -31,7 +31,8 @@ impl<'r> Row<'r> {
         Row { numbers, at: 0 }
     }
 
-    // Past the end nothing is stored.
+    // Past the end nothing is stored. By `get_mut` there is no proof: what the row holds after the loan is
+    // not stated.
     fn put(&mut self, n: u64)
         ensures { Moves 1 self.old self.new }
     {

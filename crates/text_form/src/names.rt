@@ -37,7 +37,8 @@ impl Names {
         }
     }
 
-    // One word more; where there are NAMES nothing changes.
+    // One word more; where there are NAMES nothing changes. By `get_mut` there is no proof: what the array
+    // holds after the loan is not stated.
     pub fn push(&mut self, word: &'static [u8])
         ensures { self.new ≡ with_word self.old word.now }
     {

@@ -40,7 +40,8 @@ impl Part {
         }
     }
 
-    // What the line can name.
+    // What the line can name: the names that the record's list hands over. The trait says nothing of which
+    // they are, so there is no promise but that of `Names`.
     pub fn names(self) -> Names {
         let mut names = Names::new();
         let mut cfg = Config::fmp();
