@@ -220,7 +220,8 @@ fn announce(ep: Epoch, restart: bool, peer: When, evidence: Evidence, workers: b
 }
 
 // The candidates are pruned, an open drain is retired, the current epoch is retired after a restart
-// or drained otherwise, the new epoch is installed, and the cutover is told.
+// or drained otherwise, the new epoch is installed, and the cutover is told. Every part of the state is made anew
+// from the old one, so it takes a state and gives one: stores to a lent state would be no plainer.
 #[tactic(auto, using(retire::proofs::Told::tells_then), unfolding(crate::specs::Cutover::cutover_of))]
 pub fn cutover(
     s: State,
