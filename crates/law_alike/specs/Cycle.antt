@@ -37,17 +37,17 @@ init_or z (init a) = a
 init_or z (pend_i p) = z
 init_or z (pend_r p) = z
 
-abbrev pend_iOr : PendIView → CycleView → PendIView
-pend_iOr z idle = z
-pend_iOr z (init a) = z
-pend_iOr z (pend_i p) = p
-pend_iOr z (pend_r p) = z
+abbrev pend_i_or : PendIView → CycleView → PendIView
+pend_i_or z idle = z
+pend_i_or z (init a) = z
+pend_i_or z (pend_i p) = p
+pend_i_or z (pend_r p) = z
 
-abbrev pend_rOr : PendRView → CycleView → PendRView
-pend_rOr z idle = z
-pend_rOr z (init a) = z
-pend_rOr z (pend_i p) = z
-pend_rOr z (pend_r p) = p
+abbrev pend_r_or : PendRView → CycleView → PendRView
+pend_r_or z idle = z
+pend_r_or z (init a) = z
+pend_r_or z (pend_i p) = z
+pend_r_or z (pend_r p) = p
 
 -- ---- its kind
 
@@ -126,8 +126,8 @@ cycle_fields {c} {d} h =
       owns = p;
       peers = r;
       init = λ q. attempt_fields (record { eq = ap (init_or (attempt_view c.init)) (sym (is-init c q) ∙ e ∙ is-init d (sym i ∙ q)) });
-      pendi = λ q. pendi_fields (record { eq = ap (pend_iOr (pend_iView c.pendi)) (sym (is-pendi c q) ∙ e ∙ is-pendi d (sym p ∙ q)) });
-      pendr = λ q. pendr_fields (record { eq = ap (pend_rOr (pend_rView c.pendr)) (sym (is-pendr c q) ∙ e ∙ is-pendr d (sym r ∙ q)) });
+      pendi = λ q. pendi_fields (record { eq = ap (pend_i_or (pend_iView c.pendi)) (sym (is-pendi c q) ∙ e ∙ is-pendi d (sym p ∙ q)) });
+      pendr = λ q. pendr_fields (record { eq = ap (pend_r_or (pend_rView c.pendr)) (sym (is-pendr c q) ∙ e ∙ is-pendr d (sym r ∙ q)) });
     }
 
 pub idles : {c d : Cycle} → AlikeCycle c d → is_idle c.kind ≡ is_idle d.kind
