@@ -96,7 +96,9 @@ fn write_buffer(out: &mut Output<'_, '_, impl Print>, target: &[u8]) {
     out.bytes(b"\n");
 }
 
-pub fn write_state(out: &mut Output<'_, '_, impl Print>, state: &State) {
+pub fn write_state(out: &mut Output<'_, '_, impl Print>, state: &State)
+    ensures { out.new.buffer.ghost_name ≡ out.old.buffer.ghost_name }
+{
     out.bytes(b"= state ");
     text_show::write_state(out, *state);
     out.bytes(b"\n");

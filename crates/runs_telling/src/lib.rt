@@ -177,7 +177,9 @@ fn begin(out: &mut Output<'_, '_, impl Print>, head: Head, behind: &[u8])
 }
 
 // A state as a line that `runs` and `replay` read.
-pub fn write_state(out: &mut Output<'_, '_, impl Print>, state: &State) {
+pub fn write_state(out: &mut Output<'_, '_, impl Print>, state: &State)
+    ensures { out.new.buffer.ghost_name ≡ out.old.buffer.ghost_name }
+{
     out.bytes(b"state ");
     text_show::write_state(out, *state);
     out.bytes(b"\n");
