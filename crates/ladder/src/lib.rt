@@ -113,7 +113,8 @@ impl Made {
         Made { dropped, ..self }
     }
 
-    // One rung more, or one more dropped where the schedule is full.
+    // One rung more, or one more dropped where the schedule is full. `Fresh` is asked here, in `offer` and in `fill`: as an
+    // invariant it would need a view of `Made`, which is `Copy`, and the way back from it.
     fn put(self, at: u64, silent: bool) -> Made
         requires { Fresh self }
         ensures { result ≡ putting self at silent }

@@ -27,7 +27,8 @@ struct Pass<'a> {
 }
 
 impl<'a> Pass<'a> {
-    // An item is put in its place where it is due and no earlier pass listed it.
+    // An item is put in its place where it is due and no earlier pass listed it. The room that each function here asks for
+    // differs by what it offers, so it is no invariant of the list.
     fn offer(&self, items: &mut Items, item: Item)
         requires { length items.old < most }
         ensures { Offered self.now.listed.now self.now.time (item_of item ∷ []) 1 items.old items.new }

@@ -104,6 +104,7 @@ pub fn write_state(out: &mut Output<'_, '_, impl Print>, state: &State)
     out.bytes(b"\n");
 }
 
+// A refusal by its number and the place of its check, as C's answers hold them.
 fn write_refused(out: &mut Output<'_, '_, impl Print>, number: u8, place: u8)
     ensures { Puts (refused_text number place) out.old out.new }
 {

@@ -109,7 +109,7 @@ fn write_event(out: &mut Output<'_, '_, impl Print>, head: Head, words: &[u64])
     out.bytes(b"\n");
 }
 
-// The number of a refusal and the place of its check.
+// The number of a refusal and the place of its check, as C's answers hold them.
 fn refused(out: &mut Output<'_, '_, impl Print>, head: Head, number: u8, place: u8)
     ensures { Refuses head number place out.old out.new }
 {

@@ -29,7 +29,7 @@ pub(crate) fn write_case(out: &mut Output<'_, '_, impl Print>, list: List, numbe
     out.bytes(b")");
 }
 
-// ` # ` and what a refusal says; of the settings' also which check fails.
+// ` # ` and what a refusal says; of the settings' also which check fails. By number, as C's answers hold the two.
 pub fn write_refused(out: &mut Output<'_, '_, impl Print>, number: u64, place: u64)
     ensures { Refuses number place out.old out.new }
 {
@@ -41,7 +41,8 @@ pub fn write_refused(out: &mut Output<'_, '_, impl Print>, number: u64, place: u
     }
 }
 
-// ` # ` and what the cycle of the link line is, and whether its wake has passed.
+// ` # ` and what the cycle of the link line is, and whether its wake has passed. The kind by number, as C's link line
+// holds it.
 pub fn write_cycle(out: &mut Output<'_, '_, impl Print>, kind: u64, passed: bool)
     ensures { Cycle kind passed out.old out.new }
 {

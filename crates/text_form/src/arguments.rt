@@ -79,6 +79,7 @@ impl<'r> Row<'r> {
         }
         Ok(())
     }
+
     // Reads an argument by place. A buffer is read by whoever has a place for it.
     fn read_placed(&mut self, reader: &mut Reader<'_>, a: &Argument) -> Result<(), Fault>
         ensures row { Moves (width_of a.now.kind) self.old self.new }
@@ -172,6 +173,8 @@ pub fn read_call(named: &mut Named<'_>, call: Call, row: &mut [u64]) -> Result<(
     named.reader.scan.end()
 }
 
+// Apart from `read_arguments`, which reads each argument by another method: one function would take that as a closure, with
+// clauses of its own.
 fn read_leading(reader: &mut Reader<'_>, call: Call, row: &mut [u64]) -> Result<(), Fault>
     ensures behind { drop (places_of call) row.new ≡ drop (places_of call) row.old }
     ensures size { length row.new ≡ length row.old }

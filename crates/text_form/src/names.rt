@@ -1,4 +1,4 @@
-// What a line can name, for sentences.
+// What a line can name, for sentences. An array with its length, since the programs have no heap.
 ghost use Rattle.std.specs.Prelude.{◌≡◌, ◌≤◌, [], map, length};
 ghost use Rattle.text_form.specs.Lists.{most_names, told, with_word};
 

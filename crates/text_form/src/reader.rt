@@ -241,6 +241,7 @@ impl<'a> Reader<'a> {
     fn offsets(&mut self, n: u64, at: &mut [u64; ladder::MAX_RUNGS]) -> Result<(), Fault>
         ensures { self.new.scan.line ≡ self.old.scan.line }
     {
+        // By number: a line may hold more offsets than are kept.
         for i in 0..n {
             let offset = self.number(time::END)?;
             if let Some(place) = at.get_mut(i as usize) {

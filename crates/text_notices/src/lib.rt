@@ -1,7 +1,7 @@
 // The notices on a row of arguments. Each promises its call's definition at what the row holds. No
 // function has a `requires`. Each notice reads its instant, worker flag and spread itself: a shared reader would hand
 // back a tuple to take apart, which is no shorter. The state, the settings and the profile are passed one by one, as
-// crate notice takes them: a record of the three would be taken apart in every function.
+// crate notice and the definitions take them.
 #![tactic(auto)]
 
 ghost use Rattle.answer.specs.Answers.{Answers};

@@ -168,7 +168,7 @@ impl<R: Print> Writer<'_, '_, '_, R> {
     }
 }
 
-// The word for a kind of the cycle; any other number counts as idle.
+// The word for a kind of the cycle, which is a number in C's state; any other number counts as idle.
 fn kind_word(kind: u8) -> &'static [u8]
     ensures { result.now ≡ word_of kind }
 {
