@@ -37,7 +37,7 @@ impl Session {
     // The link; before one is there, with a state of which no call reads anything.
     pub(crate) fn link(&self) -> Link {
         Link {
-            state: self.state.unwrap_or_else(text_records::blank_state),
+            state: self.state.unwrap_or_else(|| text_records::blank_state()),
             cfg: self.cfg,
             profile: self.profile,
         }
