@@ -1,4 +1,5 @@
-// The epoch that is kept after a cutover, by its tag.
+// The epoch that is kept after a cutover, by its tag. The methods are those of `MayEpoch`, of another record, which C lays
+// out.
 ghost use Rattle.std.specs.Prelude.{◌≡◌};
 ghost use Rattle.std.specs.Bool.{then_some};
 ghost use Rattle.epoch.specs.Held.{is_tag};

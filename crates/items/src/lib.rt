@@ -1,5 +1,6 @@
 // The items of a pass: what is due, in the order in which a poll acts on it (machine.rs, `poll`), and what earlier
-// passes listed. Both lists are arrays with a length, since the link has no heap.
+// passes listed. Both lists are arrays with a length, since the link has no heap. They are not
+// the kit's `ArrayVec`, which fills its free places with a default of what it holds: no kind of item is one.
 #![tactic(auto)]
 
 ghost use Rattle.std.specs.Prelude.{◌≡◌, ◌≤◌, ◌+◌, [], ◌∷◌, ◌++◌, map, length, ltb, eqb};

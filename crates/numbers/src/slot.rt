@@ -21,7 +21,7 @@ pub const PENDING: u8 = 1;
 pub const PREVIOUS: u8 = 2;
 
 impl Slot {
-    // The slot that has this number.
+    // The slot that has this number. An `Option` and no `TryFrom`: an error could say no more.
     pub fn of(number: u8) -> Option<Slot>
         ensures current { eqb number slot_current ≡ gives_current result }
         ensures pending { eqb number slot_pending ≡ gives_pending result }

@@ -14,7 +14,8 @@ pub struct Passed {
     pub count: usize,
 }
 
-// At most three passes, left from inside where the link has ended or no item is left to list.
+// At most three passes, left from inside where the link has ended or no item is left to list. The label is part of the
+// form that document 01 names.
 pub fn passes(s: &mut State, g: Given, spread: i32, log: &mut Log) -> Passed
     ensures { Leaves (three_passes s.old g spread) log.old s.new result.ended result.count log.new }
 {

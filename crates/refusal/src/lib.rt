@@ -222,7 +222,7 @@ pub fn before_told(s: &State) -> Result<(), Refusal>
     Ok(())
 }
 
-// 1 and 2.
+// 1 and 2. The settings' check becomes a refusal here alone: a `From` for one place would be no shorter.
 #[tactic(auto, using(crate::proofs::Settings::place_words), unfolding(crate::specs::Refusal::first, crate::specs::Refusal::given_tests))]
 fn before_given(cfg: Config, p: Profile) -> Result<(), Refusal>
     ensures { refused_of result ≡ first (given_tests cfg p) }

@@ -51,7 +51,7 @@ impl From<Early> for Wrong {
 }
 
 impl Line {
-    // The line that the next field names.
+    // The line that the next field names. As that of runs, over another list: no program can use another's function.
     fn read(scan: &mut Scan<'_>) -> Option<Line> {
         Call::read(scan)
             .map(Line::Call)
@@ -89,6 +89,7 @@ pub(crate) fn respond(
     }
 }
 
+// Block and reader stand one by one here and below: a line reads by the one and changes the other.
 fn take(
     out: &mut Output<'_, '_, impl Print>,
     block: &mut Block<'_>,

@@ -135,7 +135,7 @@ fn write(out: &mut Output<'_, '_, impl Print>, made: Made) -> bool {
     out.flush()
 }
 
-// Bit `i` of `map` is set where rung `i` is a keepalive.
+// Bit `i` of `map` is set where rung `i` is a keepalive. ladder's own test of it is private, and asks that the rung is there.
 fn kind(map: u64, i: usize) -> &'static [u8] {
     if i < 64 && (map >> (i as u64)) % 2 == 1 {
         b" keepalive"

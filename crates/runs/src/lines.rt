@@ -53,7 +53,7 @@ impl From<Fault> for Wrong {
 }
 
 impl Line {
-    // The line that the next field names.
+    // The line that the next field names. As that of replay, over another list: no program can use another's function.
     fn read(scan: &mut Scan<'_>) -> Option<Line> {
         Call::read(scan)
             .map(Line::Call)
@@ -96,6 +96,7 @@ pub(crate) fn respond(
     }
 }
 
+// Session and reader stand one by one here and below: a line reads by the one and changes the other.
 fn take(
     out: &mut Output<'_, '_, impl Print + Eprint>,
     session: &mut Session,

@@ -1,5 +1,6 @@
 // Calls on a link, and what it tells: call number, instant, name and two columns, and the words behind
-// them where they are asked for. No function has a `requires`.
+// them where they are asked for. No function has a `requires`. The output and the head stand one by one: of a struct of
+// both the clauses would name the fields in place of the arguments.
 #![tactic(auto)]
 
 ghost use Rattle.std.specs.Prelude.{◌≡◌, None, [], ◌∷◌};

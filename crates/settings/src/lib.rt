@@ -165,7 +165,7 @@ fn below_sum(x: u64, a: u64, b: u64) -> bool
     a.checked_add(b).map_or(true, |sum| x < sum)
 }
 
-// Whether `x <= a + b`, in the same way.
+// Whether `x <= a + b`, in the same way. A function of both would take the comparison as a closure.
 fn upto_sum(x: u64, a: u64, b: u64) -> bool
     ensures { result ≡ leb x (a + b) }
 {

@@ -13,7 +13,7 @@ use state::{Memory, Profile, State};
 use time::When;
 
 // The time from an epoch's start to its time trigger: `after` moved by the jitter, in whole
-// seconds.
+// seconds. The jitter is split by its sign, as document 01 names it.
 pub fn trigger(after: u64, jitter: i32) -> u64
     ensures { result ≡ trigger_of after jitter }
 {

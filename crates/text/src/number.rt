@@ -1,4 +1,4 @@
-// A decimal number from the bytes of a field.
+// A decimal number from the bytes of a field. By hand: std's `parse` takes a `str`, allows a sign, and has no `most`.
 ghost use Rattle.std.specs.Prelude.{◌≡◌, ◌≤◌, IfOk, IfSome};
 ghost use Rattle.text.specs.Numbers.{number_of, value as value_of, at_most};
 

@@ -3,7 +3,8 @@
 // `requires`: past the end of the row a number is 0, and a number that a narrower type does not hold
 // becomes its largest. `byte` and `word` differ in that type, and `index` and `when` in the record that
 // they make; a function for a pair would take the conversion and the largest number, or what makes the
-// record, to save a body of one line or two.
+// record, to save a body of one line or two. The row stays, since
+// promises of text_calls and of what stands above it say which argument stands at which place.
 #![tactic(auto)]
 
 ghost use Rattle.std.specs.Prelude.{◌≡◌, ◌+◌};

@@ -56,7 +56,8 @@ impl<'a> Told<'a> {
         }
     }
 
-    // The value of the first field of a column, 0 where there is none.
+    // The value of the first field of a column, 0 where there is none. Three functions go over the fields with their words: an
+    // iterator of both would need a law of its own for each of their loops.
     fn value_in(self, column: Column) -> u64
         ensures { result ≡ column_of column self.entry.event.fields.now self.entry.words.now }
     {

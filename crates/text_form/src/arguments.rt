@@ -1,5 +1,6 @@
 // The arguments of a call in a row of numbers: a number that may be absent takes two places, 0 and 0
-// where it is absent, else 1 and the number; a number with a sign is 2^31 above itself.
+// where it is absent, else 1 and the number; a number with a sign is 2^31 above itself. Call and row stand one by one: of a
+// struct of both the clauses would name the fields in place of the arguments.
 ghost use Rattle.std.specs.Prelude.{◌≡◌, Ok, drop, length};
 ghost use Rattle.std.specs.Result.{OnOk};
 ghost use Rattle.text.specs.Scans.{end_at};

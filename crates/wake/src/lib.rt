@@ -26,7 +26,7 @@ pub fn may_next(m: MayLadder) -> Option<u64>
     if m.some { m.ladder.next_at().1 } else { None }
 }
 
-// The next instant of a final message's ladder.
+// The next instant of a final message's ladder: `may_next` of another record, which C lays out.
 #[tactic(auto, unfolding(crate::specs::Due::ladder_instants, crate::specs::Due::fin_instants))]
 pub fn fin_next(f: Final) -> Option<u64>
     ensures { instants (when_of result) ≡ fin_instants f }
