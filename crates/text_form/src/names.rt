@@ -1,29 +1,29 @@
-// What a line can name, for sentences. An array with its length, since the programs have no heap.
+// What a line can name, for sentences.
 ghost use Rattle.std.specs.Prelude.{◌≡◌, ◌≤◌, [], map, length};
 ghost use Rattle.text_form.specs.Lists.{most_names, told, with_word};
 
 use crate::named::NAMES;
 use crate::reader::{Fields, Slot};
+use arrayvec::ArrayVec;
 use std::marker::Model;
 use text::Fault;
 use text_words::{Argument, Kind};
 
 #[derive(Drop)]
 pub struct Names {
-    words: [&'static [u8]; NAMES],
-    len: usize,
+    words: ArrayVec<&'static [u8], NAMES>,
 }
 
 // Clauses see the words as a list.
 impl Model for Names {
-    ghost use Rattle.std.specs.Prelude.{◌≡◌, ◌≤◌, ℕ, List, map, take, length};
+    ghost use Rattle.std.specs.Prelude.{◌≤◌, ℕ, List, map, length};
     ghost use Rattle.text_form.specs.Lists.{most_names};
 
     ghost Value = { List (List ℕ) };
 
-    ghost view = { λ a. map (λ w. w.now) (take a.len a.words) };
+    ghost view = { λ a. map (λ w. w.now) a.words.items };
 
-    ghost invariant = { λ a. (a.len ≤ most_names) × (length a.words ≡ most_names) };
+    ghost invariant = { λ a. length a.words.items ≤ most_names };
 }
 
 impl Names {
@@ -32,20 +32,15 @@ impl Names {
         ensures { result ≡ [] }
     {
         Names {
-            words: [b""; NAMES],
-            len: 0,
+            words: ArrayVec::new(),
         }
     }
 
-    // One word more; where there are NAMES nothing changes. By `get_mut` there is no proof: what the array
-    // holds after the loan is not stated.
+    // One word more; where there are NAMES nothing changes.
     pub fn push(&mut self, word: &'static [u8])
         ensures { self.new ≡ with_word self.old word.now }
     {
-        if self.len < NAMES {
-            self.words[self.len] = word;
-            self.len += 1;
-        }
+        let _ = self.words.try_push(word);
     }
 
     // The words so far.
@@ -53,7 +48,7 @@ impl Names {
         ensures value { map (λ w. w.now) result.now ≡ self.now }
         ensures room { length result.now ≤ most_names }
     {
-        &self.words[..self.len]
+        self.words.as_slice()
     }
 
     // Those of the arguments that have names, and both words of a choice.
