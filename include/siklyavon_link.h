@@ -42,9 +42,9 @@
  * Stack. What one call takes, in bytes, its arguments and its answer included: the most of many states,
  * measured with a painted stack on an Intel Xeon, the caller built by gcc 12.2 -O2 (tools/stack measures
  * again).
- *   poll 152624    frame 99440    reply 63984    sent 28992     status 11712
- *   wake 11536     open 17024     quiet 912      settings 208
- *   worker 76400   delegated and undelegated 39408   path 34000     data_sent 28384 */
+ *   poll 64144     frame 105984   reply 57168    sent 27920     status 11936
+ *   wake 11872     open 40896     quiet 544      settings 208
+ *   worker 93264   delegated and undelegated 50544   path 28432     data_sent 28400 */
 #ifndef SIKLYAVON_LINK_H
 #define SIKLYAVON_LINK_H
 
