@@ -39,7 +39,7 @@ fn named(rt: &impl Runtime, i: usize, buf: &mut [u8], room: &mut [u8], kept: &mu
     }
     if let Some(mut source) = text_source::open(rt, i) {
         filter(rt, &mut source, buf, room, kept);
-        text_source::close(source);
+        drop(source);
     }
 }
 

@@ -32,7 +32,7 @@ fn named(rt: &impl Runtime, i: usize, buf: &mut [u8], room: &mut [u8]) {
     }
     if let Some(mut source) = text_source::open(rt, i) {
         filter(rt, &mut source, buf, room);
-        text_source::close(source);
+        drop(source);
     }
 }
 

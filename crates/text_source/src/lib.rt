@@ -1,6 +1,10 @@
 // The arguments of a program that reads lines: `--help`, and the files that it reads. Arguments are
-// numbered from 1. No public function has a `requires`.
+// numbered from 1. No public function has a `requires`. What std promises of an argument is its length alone, so the
+// functions of a runtime promise to be safe and to end; what they decide by is promised of the words.
 #![tactic(auto)]
+
+ghost use Rattle.std.specs.Prelude.{◌≡◌};
+ghost use Rattle.text_source.specs.Words.{asks_help, is_standard};
 
 use std::env::FillError;
 use std::io::Read;
@@ -37,9 +41,23 @@ fn is_there(rt: &impl Env, i: usize) -> bool {
 pub fn is_help(rt: &impl Env, i: usize) -> bool {
     let mut name = [0u8; 4096];
     match rt.arg(i, &mut name) {
-        Ok(n) => matches!(&name[..n], b"--help" | b"-h"),
+        Ok(n) => asks_help(&name[..n]),
         Err(_) => false,
     }
+}
+
+// Whether a word asks for help.
+fn asks_help(word: &[u8]) -> bool
+    ensures { result ≡ asks_help word.now }
+{
+    word == b"--help".as_slice() || word == b"-h".as_slice()
+}
+
+// Whether a name stands for standard input.
+fn is_standard(name: &[u8]) -> bool
+    ensures { result ≡ is_standard name.now }
+{
+    name == b"-".as_slice()
 }
 
 // Opens the file that argument `i` names, `-` for standard input, or tells why it cannot be opened
@@ -60,7 +78,7 @@ fn open_bytes<R: Files + Input + Eprint + Alloc>(
     rt: &R,
     name: &[u8],
 ) -> Option<Source<R::Reader, R::File>> {
-    if matches!(name, b"-") {
+    if is_standard(name) {
         return Some(Source::Standard(rt.reader()));
     }
     match str::from_utf8(name) {
@@ -101,9 +119,4 @@ fn tell_words(rt: &impl Eprint, what: &str, text: &str) {
     let end = text.find(" (os error ").unwrap_or(text.len());
     let words = text.get(..end).unwrap_or(text);
     let _ = eprintln!(rt; "{what}: {words}");
-}
-
-// Closes what `open` gave.
-pub fn close<I: Drop, F: Drop>(source: Source<I, F>) {
-    drop(source);
 }
