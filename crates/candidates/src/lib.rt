@@ -169,7 +169,7 @@ impl Candidates {
     }
 
     // The candidate of that number goes, the others stay in order.
-    fn remove(&mut self, seq: u64)
+    pub fn remove(&mut self, seq: u64)
         ensures value { self.new ≡ removed_of self.old seq }
         ensures listed { held_by self.new ≡ without seq (held_by self.old) }
     {
@@ -179,7 +179,7 @@ impl Candidates {
     }
 
     // Whether the candidate of that number has a deadline not after `now`.
-    fn is_expired(&self, seq: u64, now: u64) -> bool
+    pub fn is_expired(&self, seq: u64, now: u64) -> bool
         ensures { result ≡ expired_in seq now (held_by self.now) }
     {
         match self.spot(seq) {

@@ -44,6 +44,15 @@ impl<'a> Log<'a> {
         Log { words, len: 0 }
     }
 
+    // Events that stand in the words already: as many places are taken as the length says.
+    pub fn of(words: &'a mut [u64; 768], len: usize) -> Log<'a>
+        ensures taken { result.len ≡ len }
+        ensures words { result.words.now ≡ words.old }
+        ensures same_reference { result.words.ghost_name ≡ words.entry.ghost_name }
+    {
+        Log { words, len }
+    }
+
     // How many places are taken.
     pub fn len(&self) -> usize
         ensures { result ≡ self.now.len }

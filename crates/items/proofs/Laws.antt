@@ -1,11 +1,11 @@
 -- Laws of the two lists, for their methods.
-use Rattle.std.specs.Prelude.{ℕ, suc, ◌≤◌, ◌<◌, ◌+◌, ◌-◌, Bool, true, false, ◌||◌, ◌≡◌, refl, List, [], ◌∷◌, ◌++◌, map, take, drop, length, set, get_or, ◌&&◌, Option, Some, None, cond, ltb, eqb}
+use Rattle.std.specs.Prelude.{ℕ, suc, min, ◌≤◌, ◌<◌, ◌+◌, ◌-◌, Bool, true, false, ◌||◌, ◌≡◌, refl, List, [], ◌∷◌, ◌++◌, map, take, drop, length, set, get_or, ◌&&◌, Option, Some, None, cond, ltb, eqb}
 use Rattle.std.specs.List.{copy_within, position_from, list_any, take-map, drop-map}
 use Rattle.std.specs.Option.{unwrap_or}
 use Rattle.std.specs.Ordering.{partial_ordering_then, nat_cmp, is_lt, is_some_and}
 use Rattle.std.proofs.Common.{Ordering, Less, Equal, Greater, sym, ◌∙◌, ap, ap₂, arith, eqb-true, ltb-true, lt-ltb, add-one, append_assoc, take_all}
 use Rattle.std.proofs.Math.Seq.{take-suc, append_snoc, take-set-lt}
-use Rattle.std.proofs.lemmas.List.{length-map, length-take-le, length-drop, length-append, map-append, take-take, drop-take, set_at}
+use Rattle.std.proofs.lemmas.List.{length-map, length-take-le, length-drop, length-append, map-append, take-take, drop-take, set_at, take_at, take_min}
 use Rattle.std.proofs.lemmas.List.Edits.{take-paste}
 use denote.Enum.Bare.{sameb}
 use denote.Enum.Declared.{tag_of}
@@ -22,6 +22,14 @@ use Rattle.items.specs.Arrays.{most_listed, item_of, due_of, place_for}
 -- as many items as are held
 pub length-held : {A B : Type 0} (f : A → B) (l : List A) (v : List B) (n : ℕ) → n ≤ length l → map f (take n l) ≡ v → n ≡ length v
 length-held f l v n h e = sym (length-take-le n l h) ∙ (sym (length-map (take n l) f) ∙ ap length e)
+
+-- the first m of a list, copied over the start of another
+pub copied-first :
+    {A B : Type 0} (f : A → B) (l ys rest : List A) (m n : ℕ) → n ≡ min (length l) m → ys ≡ take n l → map f (take n (ys ++ rest)) ≡ take m (map f l)
+copied-first f l ys rest m n h e =
+    let count : length ys ≡ n = ap length e ∙ length-take-le n l (omega arith) in
+    let least : n ≡ min m (length l) = omega arith in
+    ap (map f) (take_at ys rest n count ∙ (e ∙ (ap (λ k. take k l) least ∙ take_min m l))) ∙ sym (take-map f m l)
 
 -- ---- the order
 

@@ -3,7 +3,7 @@
 // the kit's `ArrayVec`, which fills its free places with a default of what it holds: no kind of item is one.
 #![tactic(auto)]
 
-ghost use Rattle.std.specs.Prelude.{◌≡◌, ◌≤◌, ◌+◌, [], ◌∷◌, ◌++◌, map, length, ltb, eqb};
+ghost use Rattle.std.specs.Prelude.{◌≡◌, ◌≤◌, ◌+◌, [], ◌∷◌, ◌++◌, map, take, length, ltb, eqb};
 ghost use Rattle.std.specs.List.{position_from};
 ghost use Rattle.time.specs.Pick.{pick};
 ghost use Rattle.numbers.specs.Cases.{kind_no};
@@ -93,8 +93,17 @@ impl Items {
     pub fn new() -> Items
         ensures { result ≡ [] }
     {
-        let items = [Item::new(0, Kind::Drain, 0); MOST];
-        Items { items, len: 0 }
+        Items::of(&[])
+    }
+
+    // The first 40 of some items, in the order in which they stand.
+    pub fn of(items: &[Item]) -> Items
+        ensures { result ≡ take most (map item_of items.now) }
+    {
+        let mut first = [Item::new(0, Kind::Drain, 0); MOST];
+        let len = items.len().min(MOST);
+        first[..len].copy_from_slice(&items[..len]);
+        Items { items: first, len }
     }
 
     // How many there are.
@@ -134,7 +143,7 @@ impl Items {
 }
 
 // What earlier passes listed, without the instants: 120 at most. It is no generic list with `Items`: the two share
-// no more than `new` and `len`.
+// no more than `new`, `of` and `len`.
 #[derive(Drop)]
 pub struct Listed {
     names: [Due; MOST_LISTED],
@@ -159,9 +168,18 @@ impl Listed {
     pub fn new() -> Listed
         ensures { result ≡ [] }
     {
+        Listed::of(&[])
+    }
+
+    // The first 120 of some kinds and keys, in the order in which they stand.
+    pub fn of(names: &[Due]) -> Listed
+        ensures { result ≡ take most_listed (map due_of names.now) }
+    {
         let kind = Kind::Drain;
-        let names = [Due { kind, key: 0 }; MOST_LISTED];
-        Listed { names, len: 0 }
+        let mut first = [Due { kind, key: 0 }; MOST_LISTED];
+        let len = names.len().min(MOST_LISTED);
+        first[..len].copy_from_slice(&names[..len]);
+        Listed { names: first, len }
     }
 
     // How many are listed.

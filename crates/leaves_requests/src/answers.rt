@@ -63,7 +63,7 @@ impl Request {
             Request::Check(cfg) => Answer::Failed(settings::accept(cfg).err()),
             Request::Hold { silence, cfg } => Answer::Hold(params::with_hold(cfg, silence).hold),
             Request::Wait { abandons, cfg } => Answer::Number(wait(abandons, cfg)?),
-            Request::Params(cfg) => Answer::Derived(Params::new(cfg)?),
+            Request::Params(cfg) => Answer::Derived(Params::accepted(cfg)?),
         })
     }
 }

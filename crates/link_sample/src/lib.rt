@@ -22,7 +22,7 @@ use state::{Bit, Given, Memory, Profile, State};
 use time::When;
 
 #[tactic(auto, unfolding(crate::specs::Sample::rungs_of))]
-fn rungs() -> Ladder
+pub fn rungs() -> Ladder
     ensures { result ≡ rungs_of }
 {
     let sched = Schedule {
@@ -38,7 +38,7 @@ fn rungs() -> Ladder
 }
 
 #[tactic(auto, unfolding(crate::specs::Sample::last_of))]
-fn last() -> Final
+pub fn last() -> Final
     ensures { result ≡ last_of }
 {
     Final {
@@ -49,7 +49,7 @@ fn last() -> Final
 }
 
 #[tactic(auto, unfolding(crate::specs::Sample::repeats_of))]
-fn repeats() -> MayLadder
+pub fn repeats() -> MayLadder
     ensures { result ≡ repeats_of }
 {
     MayLadder {
@@ -59,7 +59,7 @@ fn repeats() -> MayLadder
 }
 
 #[tactic(auto, unfolding(crate::specs::Sample::keys_of))]
-fn keys() -> Epoch
+pub fn keys() -> Epoch
     ensures { result ≡ keys_of }
 {
     let ids = Ids {
@@ -96,7 +96,7 @@ fn keys() -> Epoch
 }
 
 #[tactic(auto, unfolding(crate::specs::Sample::held_of))]
-fn held() -> MayEpoch
+pub fn held() -> MayEpoch
     ensures { result ≡ held_of }
 {
     MayEpoch {
@@ -106,7 +106,7 @@ fn held() -> MayEpoch
 }
 
 #[tactic(auto, unfolding(crate::specs::Sample::kept_of))]
-fn kept() -> Drain
+pub fn kept() -> Drain
     ensures { result ≡ kept_of }
 {
     Drain {
@@ -118,7 +118,7 @@ fn kept() -> Drain
 }
 
 #[tactic(auto, unfolding(crate::specs::Sample::own_of))]
-fn own() -> Attempt
+pub fn own() -> Attempt
     ensures { result ≡ own_of }
 {
     Attempt {
@@ -137,7 +137,7 @@ fn own() -> Attempt
 }
 
 #[tactic(auto, unfolding(crate::specs::Sample::ready_of))]
-fn ready() -> PendI
+pub fn ready() -> PendI
     ensures { result ≡ ready_of }
 {
     PendI {
@@ -154,7 +154,7 @@ fn ready() -> PendI
 }
 
 #[tactic(auto, unfolding(crate::specs::Sample::theirs_of))]
-fn theirs() -> PendR
+pub fn theirs() -> PendR
     ensures { result ≡ theirs_of }
 {
     PendR {
@@ -166,7 +166,7 @@ fn theirs() -> PendR
 }
 
 #[tactic(auto, unfolding(crate::specs::Sample::turn_of))]
-fn turn() -> Cycle
+pub fn turn() -> Cycle
     ensures { result ≡ turn_of }
 {
     Cycle {
@@ -178,7 +178,7 @@ fn turn() -> Cycle
 }
 
 #[tactic(auto, unfolding(crate::specs::Sample::waiting_of))]
-fn waiting() -> Candidates
+pub fn waiting() -> Candidates
     ensures { result ≡ waiting_of }
 {
     Candidates {
@@ -198,7 +198,7 @@ fn waiting() -> Candidates
 }
 
 #[tactic(auto, unfolding(crate::specs::Sample::facts_of))]
-fn facts(spread: i32) -> Memory
+pub fn facts(spread: i32) -> Memory
     ensures { result ≡ facts_of spread }
 {
     Memory {

@@ -1,6 +1,6 @@
 // The kinds of due items, in the order in which rows are processed where instants tie: places in `Due` (machine.rs).
-ghost use Rattle.std.specs.Prelude.{◌≡◌};
-ghost use Rattle.numbers.specs.Numbers.{items};
+ghost use Rattle.std.specs.Prelude.{◌≡◌, min};
+ghost use Rattle.numbers.specs.Numbers.{items, item_expire};
 ghost use Rattle.numbers.specs.Cases.{kind_no};
 
 // The kind of a due item.
@@ -64,6 +64,28 @@ impl Kind {
             Kind::DelayEnd => DELAY_END,
             Kind::Resend => RESEND,
             Kind::Expire => EXPIRE,
+        }
+    }
+}
+
+// The kind that a number stands for; a number past the list stands for the last kind, as the rows of a poll take it.
+impl From<u64> for Kind {
+    fn from(number: u64) -> Kind
+        ensures { kind_no result ≡ min number item_expire }
+    {
+        match number {
+            DRAIN => Kind::Drain,
+            CANDIDATE => Kind::Candidate,
+            UNADOPTED => Kind::Unadopted,
+            HELD => Kind::Held,
+            PROBE => Kind::Probe,
+            DELAYED => Kind::Delayed,
+            FIN => Kind::Fin,
+            ELICIT => Kind::Elicit,
+            CONFIRM => Kind::Confirm,
+            DELAY_END => Kind::DelayEnd,
+            RESEND => Kind::Resend,
+            _ => Kind::Expire,
         }
     }
 }

@@ -7,7 +7,7 @@
 
 ghost use Rattle.std.specs.Prelude.{◌≡◌, ◌-◌, MatchResult};
 ghost use Rattle.time.specs.Options.{when_of};
-ghost use Rattle.settings.specs.Checks.{check_place};
+ghost use Rattle.settings.specs.Checks.{check_place, told_place};
 ghost use Rattle.time.specs.Time.{backoff_of};
 ghost use Rattle.params.specs.Params.{last_offset, endless, probing, confirm_of, span_of, rung_of, gap_of, msg1_span, budget_of, first_made, fin_made, probes_made, revert_made, elicit_made, delayed_made, grace_of, with_hold_of, params_of, new_of};
 
@@ -239,9 +239,17 @@ impl Params {
         }
     }
 
+    // The verdict on the settings, and every derived value, whether or not they are accepted.
+    #[tactic(auto, unfolding(crate::specs::Params::new_of))]
+    pub fn new(cfg: Config) -> (Result<(), Check>, Params)
+        ensures { record { place = told_place result.0; params = result.1 } ≡ new_of cfg }
+    {
+        (settings::accept(cfg), Params::derived(cfg))
+    }
+
     // The values of settings that every check accepts, or the first check that refuses them.
     #[tactic(auto, unfolding(crate::specs::Params::new_of))]
-    pub fn new(cfg: Config) -> Result<Params, Check>
+    pub fn accepted(cfg: Config) -> Result<Params, Check>
         ensures { MatchResult result (λ p. record { place = 0; params = p } ≡ new_of cfg) (λ c. check_place c ≡ (new_of cfg).place) }
     {
         settings::accept(cfg)?;

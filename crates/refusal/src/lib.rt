@@ -85,7 +85,7 @@ pub fn profile_bad(p: Profile) -> bool
 
 // 6: a ladder with more than MAX_RUNGS rungs, or one that stands past its last.
 #[tactic(auto, unfolding(crate::specs::Refusal::ladder_bad))]
-fn ladder_bad(l: &Ladder) -> bool
+pub fn ladder_bad(l: &Ladder) -> bool
     ensures { result ≡ ladder_bad l.now.sched.len l.now.next }
 {
     MAX_LEN < l.sched.len || l.sched.len < l.next
@@ -93,7 +93,7 @@ fn ladder_bad(l: &Ladder) -> bool
 
 // 7: a spread outside -j to j.
 #[tactic(auto, unfolding(crate::specs::Refusal::spread_bad))]
-fn spread_bad(j: u16, spread: i32) -> bool
+pub fn spread_bad(j: u16, spread: i32) -> bool
     ensures { result ≡ spread_bad j spread }
 {
     u32::from(j) < spread.unsigned_abs()
@@ -101,7 +101,7 @@ fn spread_bad(j: u16, spread: i32) -> bool
 
 // 7: an extra above j.
 #[tactic(auto, unfolding(crate::specs::Refusal::extra_bad))]
-fn extra_bad(j: u16, extra: u32) -> bool
+pub fn extra_bad(j: u16, extra: u32) -> bool
     ensures { result ≡ extra_bad j extra }
 {
     u32::from(j) < extra

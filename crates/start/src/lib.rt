@@ -101,7 +101,7 @@ impl<'a> Rekey<'a> {
 
     // Whether the link, the current epoch and the last cutover are old enough for an own rekey.
     #[tactic(auto, unfolding(crate::specs::Start::floors_passed))]
-    fn floors(&self, now: u64) -> bool
+    pub fn floors(&self, now: u64) -> bool
         ensures { result ≡ floors_passed self.now.mem.now self.now.cfg.now self.now.started now }
     {
         self.cfg.floor_link <= time::since(now, self.mem.link_since)

@@ -49,7 +49,7 @@ pub fn byte(a: &[u64; ARGS], i: usize) -> u8
 }
 
 #[tactic(auto, unfolding(crate::specs::Args::word_at))]
-fn word(a: &[u64; ARGS], i: usize) -> u32
+pub fn word(a: &[u64; ARGS], i: usize) -> u32
     ensures { result ≡ word_at a.now i }
 {
     narrow(number(a, i))

@@ -28,7 +28,7 @@ pub struct Link {
 
 // A fresh link. The state at hand is not read.
 #[tactic(auto, unfolding(crate::specs::Calls::open_on))]
-fn open(link: Link, a: &[u64; ARGS], log: &mut [u64; 768]) -> Answer
+pub fn open(link: Link, a: &[u64; ARGS], log: &mut [u64; 768]) -> Answer
     ensures { Answers (open_on link a.now) result log.old log.new }
 {
     call_open::open(
@@ -45,7 +45,7 @@ fn open(link: Link, a: &[u64; ARGS], log: &mut [u64; 768]) -> Answer
 }
 
 #[tactic(auto, unfolding(crate::specs::Calls::poll_on))]
-fn poll(link: Link, a: &[u64; ARGS], log: &mut [u64; 768]) -> Answer
+pub fn poll(link: Link, a: &[u64; ARGS], log: &mut [u64; 768]) -> Answer
     ensures { Answers (poll_on link a.now) result log.old log.new }
 {
     poll::poll(
@@ -62,7 +62,7 @@ fn poll(link: Link, a: &[u64; ARGS], log: &mut [u64; 768]) -> Answer
 
 // A frame's plaintext is at the front of the source; the target takes what is delivered.
 #[tactic(auto, unfolding(crate::specs::Calls::frame_on, crate::specs::Calls::target_on))]
-fn frame(
+pub fn frame(
     link: Link,
     a: &[u64; ARGS],
     source: &[u8],
@@ -102,7 +102,7 @@ fn frame_proof(a: &[u64; ARGS]) -> FrameProof
 }
 
 #[tactic(auto, unfolding(crate::specs::Calls::reply_on))]
-fn reply(link: Link, a: &[u64; ARGS]) -> Answer
+pub fn reply(link: Link, a: &[u64; ARGS]) -> Answer
     ensures { Answers (reply_on link a.now) result [] [] }
 {
     call_reply::reply(
@@ -128,7 +128,7 @@ fn start_reply(a: &[u64; ARGS]) -> StartReply
 }
 
 #[tactic(auto, unfolding(crate::specs::Calls::sent_on))]
-fn sent(link: Link, a: &[u64; ARGS]) -> Answer
+pub fn sent(link: Link, a: &[u64; ARGS]) -> Answer
     ensures { Answers (sent_on link a.now) result [] [] }
 {
     call_sent::told(

@@ -18,7 +18,7 @@ mod place;
 
 // A worker authenticated a frame.
 #[tactic(auto, unfolding(crate::specs::Notices::worker_on))]
-fn worker(s: State, cfg: Config, profile: Profile, a: &[u64; ARGS], log: &mut [u64; 768]) -> Answer
+pub fn worker(s: State, cfg: Config, profile: Profile, a: &[u64; ARGS], log: &mut [u64; 768]) -> Answer
     ensures { Answers (worker_on s cfg profile a.now) result log.old log.new }
 {
     notice::worker(
@@ -37,7 +37,7 @@ fn worker(s: State, cfg: Config, profile: Profile, a: &[u64; ARGS], log: &mut [u
 
 // A worker accepted a receive copy.
 #[tactic(auto, unfolding(crate::specs::Notices::delegated_on))]
-fn delegated(
+pub fn delegated(
     s: State,
     cfg: Config,
     profile: Profile,
@@ -56,7 +56,7 @@ fn delegated(
 // A worker is gone. What differs from `delegated` is the call of crate notice; a function for the two would take that
 // as a closure of eight arguments, and clauses that say what it answers at any of them, which is longer than the body.
 #[tactic(auto, unfolding(crate::specs::Notices::undelegated_on))]
-fn undelegated(
+pub fn undelegated(
     s: State,
     cfg: Config,
     profile: Profile,
@@ -74,7 +74,7 @@ fn undelegated(
 
 // An application message was sealed.
 #[tactic(auto, unfolding(crate::specs::Notices::data_sent_on))]
-fn data_sent(
+pub fn data_sent(
     s: State,
     cfg: Config,
     profile: Profile,
@@ -91,7 +91,7 @@ fn data_sent(
 
 // Whether a next hop exists, and the smoothed round trip.
 #[tactic(auto, unfolding(crate::specs::Notices::path_on))]
-fn path(s: State, cfg: Config, profile: Profile, a: &[u64; ARGS], log: &mut [u64; 768]) -> Answer
+pub fn path(s: State, cfg: Config, profile: Profile, a: &[u64; ARGS], log: &mut [u64; 768]) -> Answer
     ensures { Answers (path_on s cfg profile a.now) result log.old log.new }
 {
     let time = text_args::number(a, place::NOW);
