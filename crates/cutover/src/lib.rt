@@ -5,7 +5,6 @@ ghost use Rattle.std.specs.Prelude.{◌≡◌, Bool};
 ghost use Rattle.time.specs.Pick.{pick, and};
 ghost use Rattle.ladder.specs.Ladder.{anew};
 ghost use Rattle.params.specs.Params.{elicit_made};
-ghost use Rattle.numbers.specs.Cases.{evidence_no};
 ghost use Rattle.events.specs.Events.{PeerRestarted};
 ghost use Rattle.events.specs.Told.{Tells};
 ghost use Rattle.retire.specs.Retire.{only};
@@ -16,7 +15,8 @@ use cycle::Cycle;
 use epoch::{Drain, Epoch, Final, MayEpoch, MayLadder};
 use events::Log;
 use ladder::Ladder;
-use numbers::evidence::Evidence;
+use numbers::evidence;
+use numbers::numbered::Numbered;
 use settings::Config;
 use state::{Bit, Given, Memory, State};
 use time::When;
@@ -32,15 +32,15 @@ pub struct Pend {
 // Whether the candidates are dropped. A proof or a frame drops them; otherwise the smaller node, which
 // keeps its completed attempt, does.
 #[tactic(auto, unfolding(crate::specs::Cutover::prunes))]
-fn prunes(evidence: Evidence, smaller: bool) -> bool
-    ensures { result ≡ prunes_of (evidence_no evidence) smaller }
+fn prunes(evidence: u64, smaller: bool) -> bool
+    ensures { result ≡ prunes_of evidence smaller }
 {
-    matches!(evidence, Evidence::Proof | Evidence::Frame) || smaller
+    matches!(evidence, evidence::PROOF | evidence::FRAME) || smaller
 }
 
 #[tactic(auto, unfolding(crate::specs::Cutover::pruned))]
-fn prune(mut v: Candidates, evidence: Evidence, smaller: bool) -> Candidates
-    ensures { result ≡ pruned v (evidence_no evidence) smaller }
+fn prune(mut v: Candidates, evidence: u64, smaller: bool) -> Candidates
+    ensures { result ≡ pruned v evidence smaller }
 {
     if prunes(evidence, smaller) {
         v.clear();
@@ -49,10 +49,10 @@ fn prune(mut v: Candidates, evidence: Evidence, smaller: bool) -> Candidates
 }
 
 // How long the old epoch is drained: the window after evidence, else up to the ceiling.
-fn hold(evidence: Evidence, cfg: Config) -> u64
-    ensures { result ≡ pick (is_frame (evidence_no evidence)) cfg.drain cfg.retention }
+fn hold(evidence: u64, cfg: Config) -> u64
+    ensures { result ≡ pick (is_frame evidence) cfg.drain cfg.retention }
 {
-    if evidence == Evidence::Frame {
+    if evidence == evidence::FRAME {
         cfg.drain
     } else {
         cfg.retention
@@ -61,8 +61,8 @@ fn hold(evidence: Evidence, cfg: Config) -> u64
 
 // The old epoch as the drain, where the peer did not restart.
 #[tactic(auto, unfolding(crate::specs::Cutover::demoted))]
-fn demote(old: Epoch, restart: bool, evidence: Evidence, cfg: Config, time: u64) -> Drain
-    ensures { result ≡ demoted old restart (evidence_no evidence) cfg time }
+fn demote(old: Epoch, restart: bool, evidence: u64, cfg: Config, time: u64) -> Drain
+    ensures { result ≡ demoted old restart evidence cfg time }
 {
     let mut ep = old;
     ep.fin.some = false;
@@ -71,7 +71,7 @@ fn demote(old: Epoch, restart: bool, evidence: Evidence, cfg: Config, time: u64)
         some: !restart,
         ep,
         deadline: time::later(time, hold(evidence, cfg)),
-        evidenced: evidence == Evidence::Frame,
+        evidenced: evidence == evidence::FRAME,
     }
 }
 
@@ -91,25 +91,25 @@ fn give_up(d: Drain, old: Epoch, restart: bool, log: &mut Log)
 // Whether a retained final message can be sent again: only after a delayed cutover, and only while
 // its ladder has a rung.
 #[tactic(auto, unfolding(crate::specs::Cutover::kept_fin))]
-fn keeps(fin: Final, evidence: Evidence) -> bool
-    ensures { result ≡ (kept_fin fin (evidence_no evidence)).some }
+fn keeps(fin: Final, evidence: u64) -> bool
+    ensures { result ≡ (kept_fin fin evidence).some }
 {
-    fin.some && evidence == Evidence::Delay && fin.ladder.next_at().1.is_some()
+    fin.some && evidence == evidence::DELAY && fin.ladder.next_at().1.is_some()
 }
 
 // A retained final message of a delayed cutover whose ladder is spent: a repair falls due.
 #[tactic(auto, unfolding(crate::specs::Cutover::spent))]
-fn spent(fin: Final, evidence: Evidence) -> bool
-    ensures { result ≡ spent_of fin (evidence_no evidence) }
+fn spent(fin: Final, evidence: u64) -> bool
+    ensures { result ≡ spent_of fin evidence }
 {
-    fin.some && evidence == Evidence::Delay && fin.ladder.next_at().1.is_none()
+    fin.some && evidence == evidence::DELAY && fin.ladder.next_at().1.is_none()
 }
 
 #[tactic(auto, unfolding(crate::specs::Cutover::heard_now))]
-fn heard_now(w: When, evidence: Evidence, time: u64) -> When
-    ensures { result ≡ heard_now w (evidence_no evidence) time }
+fn heard_now(w: When, evidence: u64, time: u64) -> When
+    ensures { result ≡ heard_now w evidence time }
 {
-    if evidence == Evidence::Frame {
+    if evidence == evidence::FRAME {
         When::of(time)
     } else {
         w
@@ -131,8 +131,8 @@ fn elicits(moved: bool, l: MayLadder, cfg: Config, time: u64) -> MayLadder
 
 // The new epoch.
 #[tactic(auto, unfolding(crate::specs::Cutover::adopted, crate::specs::Cutover::kept_fin))]
-fn adopt(ep: Epoch, fin: Final, evidence: Evidence, cfg: Config, time: u64) -> Epoch
-    ensures { result ≡ adopted ep fin (evidence_no evidence) cfg time }
+fn adopt(ep: Epoch, fin: Final, evidence: u64, cfg: Config, time: u64) -> Epoch
+    ensures { result ≡ adopted ep fin evidence cfg time }
 {
     let moved = heard_now(ep.moved, evidence, time);
     Epoch {
@@ -172,12 +172,12 @@ fn remember(
     m: Memory,
     restart: bool,
     due: bool,
-    evidence: Evidence,
+    evidence: u64,
     k: bool,
     spread: i32,
     time: u64,
 ) -> Memory
-    ensures { result ≡ remembered m restart due (evidence_no evidence) k spread time }
+    ensures { result ≡ remembered m restart due evidence k spread time }
 {
     let mut m2 = m;
     m2.jitter = spread;
@@ -185,7 +185,7 @@ fn remember(
     m2.last_cutover = When::of(time);
     m2.abandons = 0;
     m2.due = due || m.due;
-    if evidence == Evidence::Frame {
+    if evidence == evidence::FRAME {
         hear_frame(m2, k, time)
     } else {
         m2
@@ -209,8 +209,8 @@ fn restarted(restart: bool, peer: When, log: &mut Log)
 
 // What is told of the new epoch.
 #[tactic(auto, using(retire::proofs::Told::tells_then), unfolding(crate::specs::Cutover::announced))]
-fn announce(ep: Epoch, restart: bool, peer: When, evidence: Evidence, workers: bool, log: &mut Log)
-    ensures { Tells (announced ep restart peer (evidence_no evidence) workers) log.old log.new }
+fn announce(ep: Epoch, restart: bool, peer: When, evidence: u64, workers: bool, log: &mut Log)
+    ensures { Tells (announced ep restart peer evidence workers) log.old log.new }
 {
     retire::delegate(ep, workers, log);
     log.installed(ep.tag, ep.responder, evidence);
@@ -223,18 +223,19 @@ fn announce(ep: Epoch, restart: bool, peer: When, evidence: Evidence, workers: b
 // or drained otherwise, the new epoch is installed, and the cutover is told. Every part of the state is made anew
 // from the old one, so it takes a state and gives one: stores to a lent state would be no plainer.
 #[tactic(auto, using(retire::proofs::Told::tells_then), unfolding(crate::specs::Cutover::cutover_of))]
-pub fn cutover(
+pub fn cutover<N: Numbered>(
     s: State,
     g: Given,
     spread: i32,
     p: Pend,
-    evidence: Evidence,
+    evidence: N,
     k: bool,
     log: &mut Log,
 ) -> State
-    ensures state { result ≡ (cutover_of s g spread p (evidence_no evidence) k).state }
-    ensures told { Tells (cutover_of s g spread p (evidence_no evidence) k).out log.old log.new }
+    ensures state { result ≡ (cutover_of s g spread p (N.number_of evidence) k).state }
+    ensures told { Tells (cutover_of s g spread p (N.number_of evidence) k).out log.old log.new }
 {
+    let evidence = evidence.to_number();
     let old = s.cur.ep;
     give_up(s.drain, old, p.restart, log);
     let ep = adopt(p.ep, p.fin, evidence, g.cfg, g.now);

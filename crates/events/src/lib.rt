@@ -8,21 +8,14 @@
 
 ghost use Rattle.std.specs.Prelude.{◌≡◌, [], ◌∷◌, ◌<◌};
 ghost use Rattle.time.specs.Options.{when_of};
-ghost use Rattle.numbers.specs.Cases.{message_no, purpose_no, evidence_no, start_no, slot_no};
-ghost use Rattle.numbers.specs.Reason.{reason_no, abandon_no, teardown_no};
 ghost use Rattle.events.specs.Events.{Send, Prompt, Deliver, Bind, Unbind, Delegate, Revoke, Release, Installed, Retired, Reverted, PeerRestarted, Rekeyed, Reject, Abandoned, Teardown, Mark, Start, Ended};
 ghost use Rattle.events.specs.Log.{at, place_of};
 ghost use Rattle.events.specs.Told.{Stores, Tells};
 ghost use Rattle.events.specs.Queries.{word_of, words_offer, offered_in};
 ghost use Rattle.events.specs.Withdraw.{names as names_of, words_stay, withdrawn};
 
-use numbers::abandon::Abandon;
 use numbers::event;
-use numbers::evidence::Evidence;
-use numbers::message::Message;
-use numbers::purpose::Purpose;
-use numbers::reason::Reason;
-use numbers::slot::Slot;
+use numbers::numbered::Numbered;
 
 // The events of one answer, in the words that the caller lends.
 #[derive(Drop)]
@@ -74,10 +67,10 @@ impl<'a> Log<'a> {
 
     // A handshake message, on the established route without fallback, with the number of rungs that
     // were taken for it.
-    pub fn send(&mut self, msg: u64, kind: Message, rungs: u64)
-        ensures { Tells (Send msg (message_no kind) rungs ∷ []) self.old self.new }
+    pub fn send<N: Numbered>(&mut self, msg: u64, kind: N, rungs: u64)
+        ensures { Tells (Send msg (N.number_of kind) rungs ∷ []) self.old self.new }
     {
-        self.push([event::SEND, msg, kind.number(), rungs, 0, 0, 0, 0]);
+        self.push([event::SEND, msg, kind.to_number(), rungs, 0, 0, 0, 0]);
     }
 
     // A frame to seal under an epoch and send, with the number of rungs that were taken for it.
@@ -88,24 +81,15 @@ impl<'a> Log<'a> {
     }
 
     // The plaintext from `start` up to `end` of the frame's buffer.
-    pub fn deliver(&mut self, slot: Slot, tag: u64, start: u64, end: u64)
-        ensures { Tells (Deliver (slot_no slot) tag start end ∷ []) self.old self.new }
+    pub fn deliver<N: Numbered>(&mut self, slot: N, tag: u64, start: u64, end: u64)
+        ensures { Tells (Deliver (N.number_of slot) tag start end ∷ []) self.old self.new }
     {
-        self.push([
-            event::DELIVER,
-            u64::from(slot.number()),
-            tag,
-            start,
-            end,
-            0,
-            0,
-            0,
-        ]);
+        self.push([event::DELIVER, slot.to_number(), tag, start, end, 0, 0, 0]);
     }
 
     // Frames for an index on a transport go to this machine.
-    pub fn bind(&mut self, transport: u64, index: u32, tag: Option<u64>, purpose: Purpose)
-        ensures { Tells (Bind transport index (when_of tag) (purpose_no purpose) ∷ []) self.old self.new }
+    pub fn bind<N: Numbered>(&mut self, transport: u64, index: u32, tag: Option<u64>, purpose: N)
+        ensures { Tells (Bind transport index (when_of tag) (N.number_of purpose) ∷ []) self.old self.new }
     {
         let some = u64::from(tag.is_some());
         let at = tag.unwrap_or(0);
@@ -115,7 +99,7 @@ impl<'a> Log<'a> {
             u64::from(index),
             some,
             at,
-            purpose.number(),
+            purpose.to_number(),
             0,
             0,
         ]);
@@ -168,14 +152,14 @@ impl<'a> Log<'a> {
     }
 
     // An epoch became current.
-    pub fn installed(&mut self, tag: u64, responder: bool, evidence: Evidence)
-        ensures { Tells (Installed tag responder (evidence_no evidence) ∷ []) self.old self.new }
+    pub fn installed<N: Numbered>(&mut self, tag: u64, responder: bool, evidence: N)
+        ensures { Tells (Installed tag responder (N.number_of evidence) ∷ []) self.old self.new }
     {
         self.push([
             event::INSTALLED,
             tag,
             u64::from(responder),
-            evidence.number(),
+            evidence.to_number(),
             0,
             0,
             0,
@@ -212,24 +196,24 @@ impl<'a> Log<'a> {
     }
 
     // An input changed nothing, or only what its row names.
-    pub fn reject(&mut self, reason: Reason)
-        ensures { Tells (Reject (reason_no reason) ∷ []) self.old self.new }
+    pub fn reject<N: Numbered>(&mut self, reason: N)
+        ensures { Tells (Reject (N.number_of reason) ∷ []) self.old self.new }
     {
-        self.push([event::REJECT, reason.number(), 0, 0, 0, 0, 0, 0]);
+        self.push([event::REJECT, reason.to_number(), 0, 0, 0, 0, 0, 0]);
     }
 
     // An attempt or a held epoch was given up.
-    pub fn abandoned(&mut self, cause: Abandon)
-        ensures { Tells (Abandoned (abandon_no cause) ∷ []) self.old self.new }
+    pub fn abandoned<N: Numbered>(&mut self, cause: N)
+        ensures { Tells (Abandoned (N.number_of cause) ∷ []) self.old self.new }
     {
-        self.push([event::ABANDONED, cause.number(), 0, 0, 0, 0, 0, 0]);
+        self.push([event::ABANDONED, cause.to_number(), 0, 0, 0, 0, 0, 0]);
     }
 
     // The machine is to be closed.
-    pub fn teardown(&mut self, why: numbers::teardown::Teardown)
-        ensures { Tells (Teardown (teardown_no why) ∷ []) self.old self.new }
+    pub fn teardown<N: Numbered>(&mut self, why: N)
+        ensures { Tells (Teardown (N.number_of why) ∷ []) self.old self.new }
     {
-        self.push([event::TEARDOWN, why.number(), 0, 0, 0, 0, 0, 0]);
+        self.push([event::TEARDOWN, why.to_number(), 0, 0, 0, 0, 0, 0]);
     }
 
     // A frame's counter counts as received under an epoch (`mark`).
@@ -240,10 +224,10 @@ impl<'a> Log<'a> {
     }
 
     // A handshake is to be started.
-    pub fn start(&mut self, kind: numbers::start::Start)
-        ensures { Tells (Start (start_no kind) ∷ []) self.old self.new }
+    pub fn start<N: Numbered>(&mut self, kind: N)
+        ensures { Tells (Start (N.number_of kind) ∷ []) self.old self.new }
     {
-        self.push([event::START, kind.number(), 0, 0, 0, 0, 0, 0]);
+        self.push([event::START, kind.to_number(), 0, 0, 0, 0, 0, 0]);
     }
 
     // A responder pending ended, and the msg1 that armed it enters the replay record (`PendR::end`).

@@ -2,13 +2,12 @@
 #![tactic(auto)]
 
 ghost use Rattle.std.specs.Prelude.{◌≡◌, ◌≤◌, ◌+◌, Bool};
-ghost use Rattle.numbers.specs.Cases.{slot_no};
 ghost use Rattle.events.specs.Told.{Tells};
 ghost use Rattle.frame_deliver.specs.Deliver.{reaches as reaches_of, deliver_out, deliver_into};
 
 use events::Log;
+use numbers::numbered::Numbered;
 use numbers::reason::Reason;
-use numbers::slot::Slot;
 
 // Whether `n` bytes are not below the floor and both buffers, of these lengths, reach.
 #[tactic(auto, using(crate::proofs::Laws::room_left), unfolding(crate::specs::Deliver::reaches))]
@@ -23,8 +22,8 @@ fn reaches(body: usize, n: usize, floor: u64, source: usize, target: usize) -> b
 // floor or a buffer is too short: then no byte changes. The place and the two buffers stand one by one, as C hands
 // them over: a struct of them would hold a `&mut`, and the clauses would name its fields in place of the arguments.
 #[tactic(auto, unfolding(crate::specs::Deliver::deliver_out, crate::specs::Deliver::deliver_into))]
-pub fn deliver(
-    slot: Slot,
+pub fn deliver<N: Numbered>(
+    slot: N,
     tag: u64,
     body: usize,
     n: usize,
@@ -34,8 +33,9 @@ pub fn deliver(
     log: &mut Log,
 )
     ensures target { target.new ≡ deliver_into body n floor source.now target.old }
-    ensures told { Tells (deliver_out (slot_no slot) tag body n floor source.now target.old) log.old log.new }
+    ensures told { Tells (deliver_out (N.number_of slot) tag body n floor source.now target.old) log.old log.new }
 {
+    let slot = slot.to_number();
     if reaches(body, n, floor, source.len(), target.len()) {
         let end = body + n;
         target[body..end].copy_from_slice(&source[..n]);

@@ -13,6 +13,7 @@ pub mod event;
 pub mod evidence;
 pub mod item;
 pub mod message;
+pub mod numbered;
 pub mod purpose;
 pub mod reason;
 pub mod refused;

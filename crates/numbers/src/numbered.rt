@@ -1,0 +1,95 @@
+// What an event's word may be made of: a number itself, or a case of a list, which stands for its number.
+ghost use Rattle.std.specs.Prelude.{◌≡◌, ℕ};
+ghost use Rattle.numbers.specs.Cases.{message_no, purpose_no, evidence_no, start_no, slot_no};
+ghost use Rattle.numbers.specs.Reason.{reason_no, abandon_no, teardown_no};
+
+use crate::abandon::Abandon;
+use crate::evidence::Evidence;
+use crate::message::Message;
+use crate::purpose::Purpose;
+use crate::reason::Reason;
+use crate::slot::Slot;
+use crate::start::Start;
+use crate::teardown::Teardown;
+
+// What stands for a number.
+pub trait Numbered {
+    // The number.
+    ghost number_of: { Self → ℕ };
+
+    // The number.
+    fn to_number(self) -> u64
+        ensures { result ≡ number_of self };
+}
+
+impl Numbered for u64 {
+    ghost number_of = { λ n. n };
+
+    fn to_number(self) -> u64 {
+        self
+    }
+}
+
+impl Numbered for Message {
+    ghost number_of = { message_no };
+
+    fn to_number(self) -> u64 {
+        self.number()
+    }
+}
+
+impl Numbered for Purpose {
+    ghost number_of = { purpose_no };
+
+    fn to_number(self) -> u64 {
+        self.number()
+    }
+}
+
+impl Numbered for Evidence {
+    ghost number_of = { evidence_no };
+
+    fn to_number(self) -> u64 {
+        self.number()
+    }
+}
+
+impl Numbered for Start {
+    ghost number_of = { start_no };
+
+    fn to_number(self) -> u64 {
+        self.number()
+    }
+}
+
+impl Numbered for Slot {
+    ghost number_of = { slot_no };
+
+    fn to_number(self) -> u64 {
+        u64::from(self.number())
+    }
+}
+
+impl Numbered for Reason {
+    ghost number_of = { reason_no };
+
+    fn to_number(self) -> u64 {
+        self.number()
+    }
+}
+
+impl Numbered for Abandon {
+    ghost number_of = { abandon_no };
+
+    fn to_number(self) -> u64 {
+        self.number()
+    }
+}
+
+impl Numbered for Teardown {
+    ghost number_of = { teardown_no };
+
+    fn to_number(self) -> u64 {
+        self.number()
+    }
+}
