@@ -2,7 +2,8 @@
 // specs/Numbers.antt has the same names for definitions. Every list is an enum too, but the kinds of
 // events, which `events::Log` has a method each for, and the refusals, which are `refusal::Refusal`.
 // The constants stay, since words of the log and the header of C have them. `all` and `number` stand
-// in each module and in no trait: they name the constants of the module, and nothing is generic over them.
+// in each module and in no trait: they name the constants of the module. What may be told as a case or
+// as a number is generic over `numbered::Numbered`.
 #![tactic(auto)]
 
 pub mod abandon;

@@ -34,7 +34,7 @@ impl Numbered for Message {
     ghost number_of = { message_no };
 
     fn to_number(self) -> u64 {
-        self.number()
+        Message::number(self)
     }
 }
 
@@ -42,7 +42,7 @@ impl Numbered for Purpose {
     ghost number_of = { purpose_no };
 
     fn to_number(self) -> u64 {
-        self.number()
+        Purpose::number(self)
     }
 }
 
@@ -50,7 +50,7 @@ impl Numbered for Evidence {
     ghost number_of = { evidence_no };
 
     fn to_number(self) -> u64 {
-        self.number()
+        Evidence::number(self)
     }
 }
 
@@ -58,7 +58,7 @@ impl Numbered for Start {
     ghost number_of = { start_no };
 
     fn to_number(self) -> u64 {
-        self.number()
+        Start::number(self)
     }
 }
 
@@ -66,7 +66,7 @@ impl Numbered for Slot {
     ghost number_of = { slot_no };
 
     fn to_number(self) -> u64 {
-        u64::from(self.number())
+        u64::from(Slot::number(self))
     }
 }
 
@@ -74,7 +74,7 @@ impl Numbered for Reason {
     ghost number_of = { reason_no };
 
     fn to_number(self) -> u64 {
-        self.number()
+        Reason::number(self)
     }
 }
 
@@ -82,7 +82,7 @@ impl Numbered for Abandon {
     ghost number_of = { abandon_no };
 
     fn to_number(self) -> u64 {
-        self.number()
+        Abandon::number(self)
     }
 }
 
@@ -90,6 +90,6 @@ impl Numbered for Teardown {
     ghost number_of = { teardown_no };
 
     fn to_number(self) -> u64 {
-        self.number()
+        Teardown::number(self)
     }
 }
