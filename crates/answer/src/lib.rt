@@ -2,11 +2,10 @@
 // that hands a state back ends here.
 #![tactic(auto)]
 
-ghost use Rattle.std.specs.Prelude.{◌≡◌, Err};
-ghost use Rattle.refusal.specs.Refused.{refused_of};
+ghost use Rattle.std.specs.Prelude.{◌≡◌};
 ghost use Rattle.answer.specs.Answers.{back_with, taken_with};
 
-use refusal::Refusal;
+use refusal::Back;
 use state::State;
 
 // The refusal's number, 0 where there is none, with the check's place in 1; the state; how many
@@ -23,12 +22,13 @@ pub struct Answer {
 }
 
 // A call that is sent back: the number alone, with the state that it was given.
-pub fn sent_back(back: Refusal, s: State) -> Answer
-    ensures { result ≡ back_with (refused_of (Err back)) s }
+pub fn sent_back<B: Back>(back: B, s: State) -> Answer
+    ensures { result ≡ back_with (B.back_of back) s }
 {
+    let (number, place) = back.to_numbers();
     Answer {
-        number: back.number(),
-        place: back.place(),
+        number,
+        place,
         state: s,
         len: 0,
         count: 0,

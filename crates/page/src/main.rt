@@ -12,7 +12,7 @@ use text_lines::{Input, Output};
 // The row that comes next, and how many were there.
 #[derive(Clone, Copy)]
 struct Page {
-    next: Option<Row>,
+    next: Row,
     count: u64,
 }
 
@@ -29,7 +29,7 @@ fn filter(rt: &impl Print, from: &mut impl Read, buf: &mut [u8], room: &mut [u8]
     let mut input = Input::new(from, buf);
     let mut out = Output::new(rt, room);
     let mut page = Page {
-        next: Some(Row::FIRST),
+        next: Row::FIRST,
         count: 0,
     };
     for number in 1..=u64::MAX {
@@ -51,16 +51,13 @@ fn is_row(line: &[u8]) -> bool {
 // Holds the row in line `number` to the one that comes next.
 fn respond(out: &mut Output<'_, '_, impl Print>, page: &mut Page, line: &[u8], number: u64) {
     let wanted = Wanted::new(page.next);
-    match page.next {
-        Some(row) if wanted.begins(line) => {
-            page.next = row.next();
-            page.count = page.count.saturating_add(1);
-        }
-        _ => {
-            out.bytes(b"line ");
-            out.number(number);
-            tell_wanted(out, &wanted);
-        }
+    if wanted.begins(line) {
+        page.next = page.next.next();
+        page.count = page.count.saturating_add(1);
+    } else {
+        out.bytes(b"line ");
+        out.number(number);
+        tell_wanted(out, &wanted);
     }
 }
 
@@ -73,7 +70,7 @@ fn tell_wanted(out: &mut Output<'_, '_, impl Print>, wanted: &Wanted) {
 fn end(out: &mut Output<'_, '_, impl Print>, page: Page) {
     out.number(page.count);
     out.bytes(b" rows agree\n");
-    if page.next.is_some() {
+    if !page.next.is_done() {
         tell_wanted(out, &Wanted::new(page.next));
     }
     out.flush();

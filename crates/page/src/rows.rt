@@ -56,7 +56,7 @@ enum Head {
     Default(&'static [u8], u64),
 }
 
-// What a row wants where no more is wanted.
+// What a row wants that has no entry: the first one behind the last table.
 const NO_ROW: Head = Head::Entry(0, UNKNOWN);
 
 impl Row {
@@ -67,26 +67,35 @@ impl Row {
 
     // The row behind this one: the next number, or the first of the next table. It is no iterator's `next`,
     // since a row is wanted until a line agrees with it.
-    pub(crate) fn next(self) -> Option<Row> {
+    pub(crate) fn next(self) -> Row {
         let after = Row {
             table: self.table,
             number: self.number.saturating_add(1),
         };
         if after.head().is_some() {
-            return Some(after);
+            return after;
+        }
+        if self.is_done() {
+            return self;
         }
         let table = self.table.saturating_add(1);
-        let number = match TABLES.get(table)? {
-            Table::Of(list) => list.first(),
+        let number = match TABLES.get(table) {
+            Some(Table::Of(list)) => list.first(),
             _ => 0,
         };
-        Some(Row { table, number })
+        Row { table, number }
+    }
+
+    // Whether it stands behind the last table. No more is wanted then; a row of no entry is taken all the same,
+    // and then those of the places.
+    pub(crate) fn is_done(self) -> bool {
+        TABLES.len() <= self.table
     }
 
     // What it begins with, if there is such a row.
     fn head(self) -> Option<Head> {
         let n = self.number;
-        match TABLES.get(self.table)? {
+        match TABLES.get(self.table).unwrap_or(&Table::Of(List::Places)) {
             Table::Events => Some(Head::Entry(n, Event::get(n)?.entry)),
             Table::Of(list) => Some(Head::Entry(n, *list.get(n)?)),
             Table::Settings => default_of(&mut Config::fmp(), n),
@@ -158,13 +167,13 @@ pub(crate) struct Wanted {
 }
 
 impl Wanted {
-    // Of a row, or of none.
-    pub(crate) fn new(row: Option<Row>) -> Wanted {
+    // Of a row.
+    pub(crate) fn new(row: Row) -> Wanted {
         let mut wanted = Wanted {
             bytes: [0; LONGEST],
             len: 0,
         };
-        row.and_then(Row::head).unwrap_or(NO_ROW).put(&mut wanted);
+        row.head().unwrap_or(NO_ROW).put(&mut wanted);
         wanted
     }
 

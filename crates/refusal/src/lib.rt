@@ -2,11 +2,11 @@
 // read where it stands: no epoch is copied. Settings and profile stand one by one, as C hands them over.
 #![tactic(auto)]
 
-ghost use Rattle.std.specs.Prelude.{◌≡◌, ◌||◌, [], ◌∷◌};
+ghost use Rattle.std.specs.Prelude.{◌≡◌, ◌||◌, [], ◌∷◌, Err};
 ghost use Rattle.numbers.specs.Numbers.{refused_draw};
 ghost use Rattle.time.specs.Options.{when_of};
 ghost use Rattle.candidates.specs.Repeats.{repeated};
-ghost use Rattle.refusal.specs.Refused.{number_of, place_of, refused_of};
+ghost use Rattle.refusal.specs.Refused.{Refused, number_of, place_of, refused_of};
 ghost use Rattle.refusal.specs.Refusal.{profile_bad, is_pending, epochs_bad, tags_of, numbers_bad, ladder_bad, ladders_bad, spread_bad, extra_bad, first, by, given_tests, before_open, before_poll, before_frame, before_link, before_told};
 ghost use Rattle.refusal.specs.Standing.{pending_ep, shared_of, tags_bad, epoch_bad, held_bad, cycle_bad};
 
@@ -72,6 +72,32 @@ impl Refusal {
             Refusal::Settings(check) => check.place(),
             _ => 0,
         }
+    }
+}
+
+// What a call may be sent back with: a refusal, or a number and the place of a check.
+pub trait Back {
+    // The number and the place.
+    ghost back_of: { Self → Refused };
+
+    // The number and the place.
+    fn to_numbers(self) -> (u8, u8)
+        ensures { record { number = result.0; place = result.1 } ≡ back_of self };
+}
+
+impl Back for Refusal {
+    ghost back_of = { λ r. refused_of (Err r) };
+
+    fn to_numbers(self) -> (u8, u8) {
+        (self.number(), self.place())
+    }
+}
+
+impl Back for (u8, u8) {
+    ghost back_of = { λ n. record { number = n.0; place = n.1 } };
+
+    fn to_numbers(self) -> (u8, u8) {
+        self
     }
 }
 

@@ -235,6 +235,8 @@ fn call_line(
     let left = runs_telling::answer(out, session.link(), session.head(), call, &a);
     if left.is_some() {
         session.state = left;
+    } else if call == Call::Open {
+        session.empty();
     }
     Ok(())
 }

@@ -43,6 +43,13 @@ impl Session {
         }
     }
 
+    // A refused `open` answers a state with no epoch, which stands for the link that was there.
+    pub(crate) fn empty(&mut self) {
+        if let Some(state) = &mut self.state {
+            *state = text_records::blank_state();
+        }
+    }
+
     // Counts a call at `now`, and answers the latest instant where that lies after `now`. An `open`
     // begins anew.
     pub(crate) fn count(&mut self, call: Call, now: u64) -> Option<u64> {

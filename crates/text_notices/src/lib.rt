@@ -18,7 +18,13 @@ mod place;
 
 // A worker authenticated a frame.
 #[tactic(auto, unfolding(crate::specs::Notices::worker_on))]
-pub fn worker(s: State, cfg: Config, profile: Profile, a: &[u64; ARGS], log: &mut [u64; 768]) -> Answer
+pub fn worker(
+    s: State,
+    cfg: Config,
+    profile: Profile,
+    a: &[u64; ARGS],
+    log: &mut [u64; 768],
+) -> Answer
     ensures { Answers (worker_on s cfg profile a.now) result log.old log.new }
 {
     notice::worker(
@@ -91,7 +97,13 @@ pub fn data_sent(
 
 // Whether a next hop exists, and the smoothed round trip.
 #[tactic(auto, unfolding(crate::specs::Notices::path_on))]
-pub fn path(s: State, cfg: Config, profile: Profile, a: &[u64; ARGS], log: &mut [u64; 768]) -> Answer
+pub fn path(
+    s: State,
+    cfg: Config,
+    profile: Profile,
+    a: &[u64; ARGS],
+    log: &mut [u64; 768],
+) -> Answer
     ensures { Answers (path_on s cfg profile a.now) result log.old log.new }
 {
     let time = text_args::number(a, place::NOW);
