@@ -5,3 +5,6 @@ pub mod Slept
 pub mod OnlyDrained
 pub mod StateNumber
 pub mod Ranges
+pub mod Arrays
+pub mod Offered
+pub mod Lent
