@@ -5,6 +5,7 @@
 ghost use Rattle.std.specs.Prelude.{◌≡◌, IfSome, true};
 ghost use Rattle.std.specs.Option.{is_some};
 ghost use Rattle.text.specs.Scans.{accept_at, place_where};
+ghost use Rattle.text_words.specs.Calls.{call_no, call_told};
 ghost use Rattle.text_words.specs.Places.{width_of, widths, has_place};
 ghost use Rattle.text_words.specs.Words.{name_of, places_of, has_choice};
 
@@ -28,6 +29,28 @@ pub enum Call {
     // The calls that hand no state back.
     Wake,
     Status,
+}
+
+// The call that a number stands for; a number past the list stands for the last notice, as it is answered.
+impl From<u8> for Call {
+    fn from(number: u8) -> Call
+        ensures { call_no result ≡ call_told number }
+    {
+        match number {
+            0 => Call::Open,
+            1 => Call::Poll,
+            2 => Call::Frame,
+            3 => Call::Reply,
+            4 => Call::Sent,
+            5 => Call::Worker,
+            6 => Call::Delegated,
+            7 => Call::Undelegated,
+            8 => Call::DataSent,
+            10 => Call::Wake,
+            11 => Call::Status,
+            _ => Call::Path,
+        }
+    }
 }
 
 // What an argument's value can be.
