@@ -43,10 +43,12 @@ impl Session {
         }
     }
 
-    // A refused `open` answers a state with no epoch, which stands for the link that was there.
+    // A refused `open` answers a state with no epoch, whose peer can be reached. It stands for the link that
+    // was there.
     pub(crate) fn empty(&mut self) {
         if let Some(state) = &mut self.state {
             *state = text_records::blank_state();
+            state.mem.reachable = true;
         }
     }
 
