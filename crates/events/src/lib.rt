@@ -14,8 +14,11 @@ ghost use Rattle.events.specs.Told.{Stores, Tells};
 ghost use Rattle.events.specs.Queries.{word_of, words_offer, offered_in};
 ghost use Rattle.events.specs.Withdraw.{names as names_of, words_stay, withdrawn};
 
+mod optional;
+
 use numbers::event;
 use numbers::numbered::Numbered;
+pub use optional::Optional;
 
 // The events of one answer, in the words that the caller lends.
 #[derive(Drop)]
@@ -88,17 +91,16 @@ impl<'a> Log<'a> {
     }
 
     // Frames for an index on a transport go to this machine.
-    pub fn bind<N: Numbered>(&mut self, transport: u64, index: u32, tag: Option<u64>, purpose: N)
-        ensures { Tells (Bind transport index (when_of tag) (N.number_of purpose) ∷ []) self.old self.new }
+    pub fn bind<W: Optional, N: Numbered>(&mut self, transport: u64, index: u32, tag: W, purpose: N)
+        ensures { Tells (Bind transport index (W.told_of tag) (N.number_of purpose) ∷ []) self.old self.new }
     {
-        let some = u64::from(tag.is_some());
-        let at = tag.unwrap_or(0);
+        let tag = tag.to_told();
         self.push([
             event::BIND,
             transport,
             u64::from(index),
-            some,
-            at,
+            u64::from(tag.some),
+            tag.at,
             purpose.to_number(),
             0,
             0,
@@ -113,26 +115,25 @@ impl<'a> Log<'a> {
     }
 
     // The receive half of an epoch is offered to a decrypt worker.
-    pub fn delegate(
+    pub fn delegate<W: Optional>(
         &mut self,
         tag: u64,
         transport: u64,
         index: u32,
         session: u64,
-        floor: Option<u64>,
+        floor: W,
     )
-        ensures { Tells (Delegate tag transport index session (when_of floor) ∷ []) self.old self.new }
+        ensures { Tells (Delegate tag transport index session (W.told_of floor) ∷ []) self.old self.new }
     {
-        let some = u64::from(floor.is_some());
-        let at = floor.unwrap_or(0);
+        let floor = floor.to_told();
         self.push([
             event::DELEGATE,
             tag,
             transport,
             u64::from(index),
             session,
-            some,
-            at,
+            u64::from(floor.some),
+            floor.at,
             0,
         ]);
     }

@@ -1,5 +1,5 @@
 -- Laws of the two lists, for their methods.
-use Rattle.std.specs.Prelude.{ℕ, suc, min, ◌≤◌, ◌<◌, ◌+◌, ◌-◌, Bool, true, false, ◌||◌, ◌≡◌, refl, List, [], ◌∷◌, ◌++◌, map, take, drop, length, set, get_or, ◌&&◌, Option, Some, None, cond, ltb, eqb}
+use Rattle.std.specs.Prelude.{ℕ, suc, min, ◌≤◌, ◌<◌, ◌+◌, ◌-◌, Bool, true, false, ◌||◌, ◌≡◌, refl, List, [], ◌∷◌, ◌++◌, map, take, drop, length, set, get_or, Option, Some, None, cond, ltb, eqb}
 use Rattle.std.specs.List.{copy_within, position_from, list_any, take-map, drop-map}
 use Rattle.std.specs.Option.{unwrap_or}
 use Rattle.std.specs.Ordering.{partial_ordering_then, nat_cmp, is_lt, is_some_and}
@@ -7,13 +7,7 @@ use Rattle.std.proofs.Common.{Ordering, Less, Equal, Greater, sym, ◌∙◌, ap
 use Rattle.std.proofs.Math.Seq.{take-suc, append_snoc, take-set-lt}
 use Rattle.std.proofs.lemmas.List.{length-map, length-take-le, length-drop, length-append, map-append, take-take, drop-take, set_at, take_at, take_min}
 use Rattle.std.proofs.lemmas.List.Edits.{take-paste}
-use denote.Enum.Bare.{sameb}
-use denote.Enum.Declared.{tag_of}
-use Rattle.numbers.specs.contracts.item.Kind.{the_type}
-use Rattle.numbers.specs.declared.item.Kind.{Kind}
-use Rattle.numbers.specs.declared.item.Kind.TheVariants as kind
 use Rattle.time.specs.Pick.{pick}
-use Rattle.numbers.specs.Cases.{kind_no}
 use Rattle.items.specs.declared.Due.{Due}
 use Rattle.items.specs.declared.Item.{Item as Timed}
 use Rattle.items.specs.Items.{Item, less_by, before, insert, names, listed_in, untimed}
@@ -135,24 +129,6 @@ inserted l v i n x k e p =
     ∙ sym (insert-place (item_of x) v))))
 
 -- ---- what earlier passes listed
-
-tag-number : (k : Kind) → tag_of the_type k ≡ kind_no k
-tag-number kind.Drain = refl
-tag-number kind.Candidate = refl
-tag-number kind.Unadopted = refl
-tag-number kind.Held = refl
-tag-number kind.Probe = refl
-tag-number kind.Delayed = refl
-tag-number kind.Fin = refl
-tag-number kind.Elicit = refl
-tag-number kind.Confirm = refl
-tag-number kind.DelayEnd = refl
-tag-number kind.Resend = refl
-tag-number kind.Expire = refl
-
--- `==` of two names is that they name the same
-pub same-names : (a b : Due) → (sameb the_type a.kind b.kind && eqb a.key b.key) ≡ names (due_of a) (due_of b)
-same-names a b = ap₂ (λ k l. eqb k l && eqb a.key b.key) (tag-number a.kind) (tag-number b.kind)
 
 pub listed-any : (e : Due → Bool) (x : Item) → ((d : Due) → e d ≡ names (due_of d) x) → (l : List Due) → list_any e l ≡ listed_in x (map due_of l)
 unfolding listed_in

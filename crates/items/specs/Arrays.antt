@@ -1,7 +1,6 @@
 -- What the lists of items hold, as definitions see it, and where an item is put.
 use Rattle.std.specs.Prelude.{ℕ, suc, List, [], ◌∷◌}
 use Rattle.time.specs.Pick.{pick}
-use Rattle.numbers.specs.Cases.{kind_no}
 use Rattle.items.specs.declared.Due.{Due}
 use Rattle.items.specs.declared.Item.{Item as Timed}
 use Rattle.items.specs.Items.{Item, item, before}
@@ -16,11 +15,11 @@ most_listed = 120
 
 -- an item of the code
 abbrev pub item_of : Timed → Item
-item_of i = item i.at (kind_no i.due.kind) i.due.key
+item_of i = item i.at i.due.kind i.due.key
 
 -- a listed item, which has no instant
 abbrev pub due_of : Due → Item
-due_of d = item 0 (kind_no d.kind) d.key
+due_of d = item 0 d.kind d.key
 
 -- where an item is put
 unfoldable pub place_for : Item → List Item → ℕ

@@ -1,16 +1,15 @@
 // The items of a pass: what is due, in the order in which a poll acts on it (machine.rs, `poll`), and what earlier
 // passes listed. Both lists are arrays with a length, since the link has no heap. They are not
-// the kit's `ArrayVec`, which fills its free places with a default of what it holds: no kind of item is one.
+// the kit's `ArrayVec`, which fills its free places with a default of what it holds: no item is one.
 #![tactic(auto)]
 
 ghost use Rattle.std.specs.Prelude.{◌≡◌, ◌≤◌, ◌+◌, [], ◌∷◌, ◌++◌, map, take, length, ltb, eqb};
 ghost use Rattle.std.specs.List.{position_from};
 ghost use Rattle.time.specs.Pick.{pick};
-ghost use Rattle.numbers.specs.Cases.{kind_no};
 ghost use Rattle.items.specs.Items.{item, before, insert, listed_in, untimed};
 ghost use Rattle.items.specs.Arrays.{most, most_listed, item_of, due_of, place_for};
 
-use numbers::item::Kind;
+use numbers::numbered::Numbered;
 use std::marker::Model;
 
 // The most items of a pass: 32 candidates and eight more.
@@ -19,10 +18,11 @@ const MOST: usize = 40;
 // What three passes list at most.
 const MOST_LISTED: usize = 120;
 
-// What is due: a kind, and a tag or a sequence number, 0 for a kind that has none.
+// What is due: the number of a kind, and a tag or a sequence number, 0 for a kind that has none. It holds a number and
+// no case, since the lists take a number past the last kind as one of its own.
 #[derive(Clone, Copy, PartialEq, Eq)]
 pub struct Due {
-    pub kind: Kind,
+    pub kind: u64,
     pub key: u64,
 }
 
@@ -35,9 +35,10 @@ pub struct Item {
 
 impl Item {
     // A thing of that kind and key, due at that instant.
-    pub fn new(at: u64, kind: Kind, key: u64) -> Item
-        ensures { item_of result ≡ item at (kind_no kind) key }
+    pub fn new<K: Numbered>(at: u64, kind: K, key: u64) -> Item
+        ensures { item_of result ≡ item at (K.number_of kind) key }
     {
+        let kind = kind.to_number();
         Item {
             at,
             due: Due { kind, key },
@@ -49,8 +50,8 @@ impl Item {
     pub fn is_before(self, other: Item) -> bool
         ensures { result ≡ before (item_of self) (item_of other) }
     {
-        let own = (self.at, self.due.kind.number(), self.due.key);
-        own < (other.at, other.due.kind.number(), other.due.key)
+        let own = (self.at, self.due.kind, self.due.key);
+        own < (other.at, other.due.kind, other.due.key)
     }
 }
 
@@ -100,7 +101,7 @@ impl Items {
     pub fn of(items: &[Item]) -> Items
         ensures { result ≡ take most (map item_of items.now) }
     {
-        let mut first = [Item::new(0, Kind::Drain, 0); MOST];
+        let mut first = [Item::new(0, 0, 0); MOST];
         let len = items.len().min(MOST);
         first[..len].copy_from_slice(&items[..len]);
         Items { items: first, len }
@@ -175,8 +176,7 @@ impl Listed {
     pub fn of(names: &[Due]) -> Listed
         ensures { result ≡ take most_listed (map due_of names.now) }
     {
-        let kind = Kind::Drain;
-        let mut first = [Due { kind, key: 0 }; MOST_LISTED];
+        let mut first = [Due { kind: 0, key: 0 }; MOST_LISTED];
         let len = names.len().min(MOST_LISTED);
         first[..len].copy_from_slice(&names[..len]);
         Listed { names: first, len }

@@ -1,10 +1,12 @@
-// What an event's word may be made of: a number itself, or a case of a list, which stands for its number.
+// What an event's word, or an item's kind, may be made of: a number itself, or a case of a list, which stands for its
+// number.
 ghost use Rattle.std.specs.Prelude.{◌≡◌, ℕ};
-ghost use Rattle.numbers.specs.Cases.{message_no, purpose_no, evidence_no, start_no, slot_no};
+ghost use Rattle.numbers.specs.Cases.{message_no, purpose_no, evidence_no, start_no, slot_no, kind_no};
 ghost use Rattle.numbers.specs.Reason.{reason_no, abandon_no, teardown_no};
 
 use crate::abandon::Abandon;
 use crate::evidence::Evidence;
+use crate::item::Kind;
 use crate::message::Message;
 use crate::purpose::Purpose;
 use crate::reason::Reason;
@@ -67,6 +69,14 @@ impl Numbered for Slot {
 
     fn to_number(self) -> u64 {
         u64::from(Slot::number(self))
+    }
+}
+
+impl Numbered for Kind {
+    ghost number_of = { kind_no };
+
+    fn to_number(self) -> u64 {
+        Kind::number(self)
     }
 }
 

@@ -8,11 +8,11 @@ ghost use Rattle.grace.specs.Grace.{grace};
 ghost use Rattle.poll_epoch.specs.EpochRows.{fin_due};
 ghost use Rattle.poll_cycle.specs.CycleRows.{probe_due, resend_due, expire_due};
 ghost use Rattle.poll_cut.specs.Cut.{Did};
-ghost use Rattle.poll_item.specs.Item.{holds, alone, on_cycle, on_cur, on_fail, item_step};
+ghost use Rattle.poll_item.specs.Item.{holds, alone, on_cycle, on_cur, on_fail, other_step, item_step};
 
 use events::Log;
 use items::Due;
-use numbers::item::Kind;
+use numbers::item::{self, Kind};
 use state::{Given, State};
 
 // The hold-back: while opening, a larger node with a candidate.
@@ -72,19 +72,18 @@ fn expire(s: &mut State, g: Given, log: &mut Log) -> bool
     poll_cycle::expire_due(&mut s.cycle, &mut s.mem, g.cfg, last, g.now, g.extra, log)
 }
 
-// One item; whether the link ends.
-#[tactic(auto, unfolding(crate::specs::Item::item_step, crate::specs::Item::other_step, crate::specs::Item::low_step, crate::specs::Item::high_step))]
-pub fn step(s: &mut State, g: Given, spread: i32, due: Due, log: &mut Log) -> bool
-    ensures { Did (item_step s.old g spread (kind_no due.kind) due.key) log.old s.new result log.new }
+// The row of a kind. `step` runs that of a candidate itself; here a candidate runs the row of a delayed cutover, as the
+// definition `other_step` has it.
+#[tactic(auto, unfolding(crate::specs::Item::other_step, crate::specs::Item::low_step, crate::specs::Item::high_step))]
+fn row(s: &mut State, g: Given, spread: i32, kind: Kind, key: u64, log: &mut Log) -> bool
+    ensures { Did (other_step s.old g spread (kind_no kind) key) log.old s.new result log.new }
 {
-    let key = due.key;
-    match due.kind {
+    match kind {
         Kind::Drain => poll_epoch::drain_due(&mut s.drain, key, log),
-        Kind::Candidate => poll_cut::candidate_due(s, key, g.now, log),
         Kind::Unadopted => poll_cycle::unadopted_due(&mut s.cycle, key, log),
         Kind::Held => poll_cut::held_due(s, g, spread, key, log),
         Kind::Probe => probe(s, g, key, log),
-        Kind::Delayed => poll_cycle::delayed_due(&mut s.cycle, key, g.now, log),
+        Kind::Candidate | Kind::Delayed => poll_cycle::delayed_due(&mut s.cycle, key, g.now, log),
         Kind::Fin => fin(s, key, g.now, log),
         Kind::Elicit => poll_epoch::elicit_due(&mut s.cur, key, g.now, log),
         Kind::Confirm => poll_cut::confirm_due(s, g, spread, key, log),
@@ -93,4 +92,23 @@ pub fn step(s: &mut State, g: Given, spread: i32, due: Due, log: &mut Log) -> bo
         Kind::Expire => return expire(s, g, log),
     }
     false
+}
+
+// Any item but a candidate, by the order of the kinds; whether the link ends.
+pub fn other(s: &mut State, g: Given, spread: i32, due: Due, log: &mut Log) -> bool
+    ensures { Did (other_step s.old g spread due.kind due.key) log.old s.new result log.new }
+{
+    row(s, g, spread, Kind::from(due.kind), due.key, log)
+}
+
+// One item; whether the link ends.
+#[tactic(auto, unfolding(crate::specs::Item::item_step))]
+pub fn step(s: &mut State, g: Given, spread: i32, due: Due, log: &mut Log) -> bool
+    ensures { Did (item_step s.old g spread due.kind due.key) log.old s.new result log.new }
+{
+    if due.kind == item::CANDIDATE {
+        poll_cut::candidate_due(s, due.key, g.now, log);
+        return false;
+    }
+    other(s, g, spread, due, log)
 }

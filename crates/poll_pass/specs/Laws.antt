@@ -5,7 +5,6 @@ use Rattle.std.proofs.Common.{sym, ◌∙◌, ap, append_assoc, append-nil}
 use Rattle.std.proofs.lemmas.List.{map-append, take_more}
 use Rattle.time.specs.Pick.{pick}
 use Rattle.time.specs.Lists.{fold, fold-append}
-use Rattle.numbers.specs.Cases.{kind_no}
 use Rattle.items.specs.declared.Item.{Item as Timed}
 use Rattle.items.specs.Items.{Item, untimed}
 use Rattle.items.specs.Arrays.{item_of}
@@ -54,7 +53,7 @@ module _ (g : Given) (spread : ℤ) where
   -- one item more
   pub runs-next :
       (xs : List Timed) (i : ℕ) (d : Timed) (w : Work) {l m n : Log} {s s' : State} {b ends : Bool} → i < length xs → Runs (pass_of g spread (map item_of (take i xs)) w) l s b m
-      → Did (item_step s g spread (kind_no (get_or xs i d).due.kind) (get_or xs i d).due.key) m s' ends n
+      → Did (item_step s g spread (get_or xs i d).due.kind (get_or xs i d).due.key) m s' ends n
       → Runs (pass_of g spread (map item_of (take (i + 1) xs)) w) l s' (b || ends) n
   unfolding run_item
   runs-next xs i d w {l} {m} {n} {s} {s'} {b} {ends} h p q =

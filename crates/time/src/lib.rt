@@ -97,6 +97,18 @@ impl When {
     {
         self.some && self.at <= now
     }
+
+    // The earlier of two, where both are there; where the first is absent, the second as it stands.
+    #[tactic(auto, unfolding(crate::specs::Time::sooner_of))]
+    pub fn sooner(self, other: When) -> When
+        ensures { result ≡ sooner_of self other }
+    {
+        if self.some && (!other.some || self.at <= other.at) {
+            self
+        } else {
+            other
+        }
+    }
 }
 
 impl From<Option<u64>> for When {

@@ -6,6 +6,5 @@ use Rattle.items.proofs.Item.is_before.Goals as goal
 pub returns : goal.returns
 unfolding before
 returns c =
-    rw (← c.number.ensures, ← c.number-2.ensures)
-    (c.lt.ensures
-    ∙ three-less c.args.self.at c.args.other.at c.number.result c.number-2.result c.args.self.due.key c.args.other.due.key)
+    c.lt.ensures
+    ∙ three-less c.args.self.at c.args.other.at c.args.self.due.kind c.args.other.due.kind c.args.self.due.key c.args.other.due.key
