@@ -202,7 +202,7 @@ fn placed(link: &Link, part: Part, named: &mut Named<'_>) -> Result<State, Wrong
 fn made(link: &Link, part: Part, now: u64, wait: Wait, evidenced: bool) -> State {
     match part {
         Part::Drained => runs_placing::drained(link, now, evidenced),
-        Part::PendI => runs_placing::pendi(link, now, wait),
+        Part::PendI => runs_placing::pendi(link, now, wait.number()),
         Part::PendR => runs_placing::pendr(link, now),
         _ => runs_placing::candidate(link, now),
     }

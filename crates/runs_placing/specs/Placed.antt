@@ -1,12 +1,10 @@
 -- A state with a record placed in it: where it stands, and what stays as it is.
-use Rattle.std.specs.Prelude.{ℕ, ◌+◌, Bool, true, ltb, set}
+use Rattle.std.specs.Prelude.{ℕ, ◌+◌, Bool, true, ltb, eqb, set}
 use Rattle.time.specs.Pick.{pick}
 use Rattle.time.specs.Time.{later_of, sat_add, most}
-use Rattle.numbers.specs.declared.wait.Wait.{Wait}
-use Rattle.numbers.specs.declared.wait.Wait.TheVariants as wait
 use Rattle.params.specs.Params.{confirm_of, value_or}
 use Rattle.text_calls.specs.declared.Link.{Link}
-use Rattle.numbers.specs.Numbers.{cycle_pend_i, cycle_pend_r}
+use Rattle.numbers.specs.Numbers.{cycle_pend_i, cycle_pend_r, wait_held, wait_evidence}
 use Rattle.settings.specs.declared.Config.{Config}
 use Rattle.epoch.specs.declared.Epoch.{Epoch}
 use Rattle.epoch.specs.declared.Drain.{Drain}
@@ -20,12 +18,13 @@ use Rattle.candidates.specs.Held.{Candidate}
 unfoldable pub completed : Cycle → PendI → Cycle
 completed c p = record { kind = cycle_pend_i; init = c.init; pendi = p; pendr = c.pendr }
 
--- when the wait of an own attempt ends: at once, with the confirmation window, or after the delay, and
--- not before a round trip
-unfoldable pub wait_until : Link → ℕ → Wait → ℕ
-wait_until l now wait.Held = now
-wait_until l now wait.Evidence = later_of now (confirm_of l.cfg)
-wait_until l now wait.Delay = later_of now (most l.cfg.delay (value_or 0 l.state.mem.hs_rtt))
+-- when the wait of an own attempt ends: at once, with the confirmation window, or after the delay, as which any
+-- other number counts, and not before a round trip
+unfoldable pub wait_until : Link → ℕ → ℕ → ℕ
+wait_until l now wait =
+    pick (eqb wait wait_held) now
+    (pick (eqb wait wait_evidence) (later_of now (confirm_of l.cfg))
+    (later_of now (most l.cfg.delay (value_or 0 l.state.mem.hs_rtt))))
 
 -- the cycle with a peer's attempt that was answered
 unfoldable pub answered : Cycle → PendR → Cycle

@@ -3,7 +3,6 @@
 #![tactic(auto)]
 
 ghost use Rattle.std.specs.Prelude.{◌≡◌, false, eqb};
-ghost use Rattle.numbers.specs.Cases.{wait_no};
 ghost use Rattle.time.specs.Time.{later_of, sat_add};
 ghost use Rattle.state.specs.Parts.{put_cycle, put_drain, put_cands};
 ghost use Rattle.runs_placing.specs.Placed.{completed, answered, wait_until, kept, kept_until, added};
@@ -19,22 +18,23 @@ use state::State;
 use text_calls::Link;
 use time::When;
 
-// An own attempt that completed at `now`, under a wait.
+// An own attempt that completed at `now`, under a wait by its number, which the record keeps as it is given.
 #[tactic(auto, unfolding(crate::specs::Placed::completed))]
-pub fn pendi(link: &Link, now: u64, wait: Wait) -> State
+pub fn pendi(link: &Link, now: u64, wait: u8) -> State
     ensures placed { result ≡ put_cycle link.now.state (completed link.now.state.cycle result.cycle.pendi) }
-    ensures wait { result.cycle.pendi.wait ≡ wait_no wait }
+    ensures wait { result.cycle.pendi.wait ≡ wait }
     ensures deadline { result.cycle.pendi.deadline ≡ wait_until link.now now wait }
     ensures tag { result.cycle.pendi.ep.tag ≡ sat_add link.now.state.cur.ep.tag 1 }
     ensures started { result.cycle.pendi.ep.started ≡ now }
 {
+    let kind = Wait::from(wait);
     let pendi = PendI {
-        ep: own_epoch(&link.state, now, wait),
-        wait: wait.number(),
+        ep: own_epoch(&link.state, now, kind),
+        wait,
         deadline: wait_end(link, now, wait),
         fin: final_message(link, now, wait),
-        probes: probes(&link.cfg, now, wait),
-        probed: by_evidence(wait, now),
+        probes: probes(&link.cfg, now, kind),
+        probed: by_evidence(kind, now),
         ..PendI::BLANK
     };
     let cycle = Cycle {
@@ -69,10 +69,10 @@ fn own_epoch(state: &State, now: u64, wait: Wait) -> Epoch
 
 // When the wait ends: at once, with the confirmation window, or after the delay.
 #[tactic(auto, using(time::proofs::Std::std_words), unfolding(crate::specs::Placed::wait_until))]
-fn wait_end(link: &Link, now: u64, wait: Wait) -> u64
+fn wait_end(link: &Link, now: u64, wait: u8) -> u64
     ensures { result ≡ wait_until link.now now wait }
 {
-    match wait {
+    match Wait::from(wait) {
         Wait::Held => now,
         Wait::Evidence => time::later(now, params::confirm(link.cfg)),
         Wait::Delay => {
@@ -83,13 +83,14 @@ fn wait_end(link: &Link, now: u64, wait: Wait) -> u64
 }
 
 // The third message, which three messages have: resent only where the cutover waits a fixed delay.
-fn final_message(link: &Link, now: u64, wait: Wait) -> Final {
-    let sched = match wait {
-        Wait::Delay => params::delayed(link.cfg).sched,
-        _ => Schedule::EMPTY,
+fn final_message(link: &Link, now: u64, wait: u8) -> Final {
+    let sched = if wait == Wait::Delay.number() {
+        params::delayed(link.cfg).sched
+    } else {
+        Schedule::EMPTY
     };
     Final {
-        some: link.profile.messages == 3 && wait != Wait::Held,
+        some: link.profile.messages == 3 && wait != Wait::Held.number(),
         msg: 0,
         ladder: Ladder::new(now, sched),
     }

@@ -10,6 +10,7 @@ use Rattle.text_lines.specs.Outputs.{decimal_of}
 use Rattle.text_lines.specs.Puts.{Puts, Begins, number_text, optional_text}
 use Rattle.text_lists.specs.declared.Entry.{Entry}
 use Rattle.text_lists.specs.declared.List.TheVariants.{Cycles}
+use Rattle.text_lists.specs.declared.Table.TheVariants.{Of}
 use Rattle.text_events.specs.Named.{Enters}
 use Rattle.runs_telling.specs.declared.Head.{Head}
 
@@ -69,7 +70,7 @@ status_text h s name = head_text h status_words ++ optional_text (option_of s.ta
 pub record Status {R : Type 0} (h : Head) (s : Shown) (o o' : Output R) : Type 0 where
   pub entry : Entry
   pub more : List (List ℕ)
-  pub enters : Enters Cycles s.kind entry
+  pub enters : Enters (Of Cycles) s.kind entry
   pub puts : Puts (status_text h s entry.name.now ++ more ++ (line ∷ [])) o o'
   pub plain : h.explain ≡ false → more ≡ []
 

@@ -16,7 +16,7 @@ use text_args::ARGS;
 use text_calls::{Link, place};
 use text_events::Told;
 use text_lines::Output;
-use text_lists::List;
+use text_lists::{List, Table};
 use text_words::Call;
 
 // The number of a call and its instant, and whether its lines are explained.
@@ -150,7 +150,7 @@ fn write_status(out: &mut Output<'_, '_, impl Print>, head: Head, r: Shown)
     begin(out, head, b" status tag");
     out.spaced_or(r.tag.get(), b" none");
     out.bytes(b" cycle ");
-    text_events::write_name(out, List::Cycles, u64::from(r.kind));
+    text_events::write_name(out, Table::Of(List::Cycles), u64::from(r.kind));
     out.bytes(b" wake");
     out.spaced_or(r.wake.get(), b" none");
     out.bytes(b" quiet");

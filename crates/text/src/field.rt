@@ -34,7 +34,7 @@ fn first(s: &[u8], b: u8) -> usize
 
 // The field that starts at `at`. There is none past the end of the line.
 #[tactic(auto, unfolding(crate::specs::Fields::field_at))]
-pub(crate) fn next_field(line: &[u8], at: usize) -> Option<Field>
+pub fn next_field(line: &[u8], at: usize) -> Option<Field>
     ensures value { result ≡ field_at line.now at }
     ensures within { IfSome result (Within line.now at) }
 {

@@ -6,7 +6,7 @@ use crate::fault::Fault;
 
 // The number that the digits of `s` stand for, at most `most`.
 #[tactic(auto, unfolding(crate::specs::Numbers::number_of))]
-pub(crate) fn parse(s: &[u8], most: u64) -> Result<u64, Fault>
+pub fn parse(s: &[u8], most: u64) -> Result<u64, Fault>
     ensures value { result ≡ number_of s.now most }
     ensures bound { IfOk result (λ n. n ≤ most) }
 {

@@ -140,7 +140,7 @@ impl<'a> Scan<'a> {
 }
 
 // The place of `word` among `words`.
-pub(crate) fn place_of(words: &[&[u8]], word: &[u8]) -> Option<usize>
+pub fn place_of(words: &[&[u8]], word: &[u8]) -> Option<usize>
     ensures { result ≡ place_of (map (λ w. w.now) words.now) word.now }
 {
     words.iter().position(|w| *w == word)

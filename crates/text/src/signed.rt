@@ -8,7 +8,7 @@ use crate::number::parse;
 // The number from -2^31 to 2^31 - 1 that `s` stands for: digits, with `-` before them where it is
 // below 0.
 #[tactic(auto, unfolding(crate::specs::Signs::signed_of))]
-pub(crate) fn parse_signed(s: &[u8]) -> Result<i32, Fault>
+pub fn parse_signed(s: &[u8]) -> Result<i32, Fault>
     ensures { result ≡ signed_of s.now }
 {
     if let [b'-', digits @ ..] = s {

@@ -4,8 +4,10 @@ use Rattle.text_lines.specs.declared.output.Output.{Output}
 use Rattle.text_lines.specs.Puts.{Puts}
 use Rattle.text_lists.specs.declared.Entry.{Entry}
 use Rattle.text_lists.specs.declared.List.{List as Listing}
+use Rattle.text_lists.specs.declared.Table.{Table}
+use Rattle.text_lists.specs.declared.Table.TheVariants.{Of}
 use Rattle.text_lists.specs.declared.List.TheVariants.{Refusals, Places, Cycles}
-use Rattle.text_lists.specs.Lists.{has}
+use Rattle.text_lists.specs.Lists.{has, holds}
 
 -- `unknown` and `no such number`
 abbrev pub unknown : List ℕ
@@ -15,14 +17,14 @@ abbrev pub no_such_number : List ℕ
 no_such_number = 110 ∷ 111 ∷ 32 ∷ 115 ∷ 117 ∷ 99 ∷ 104 ∷ 32 ∷ 110 ∷ 117 ∷ 109 ∷ 98 ∷ 101 ∷ 114 ∷ []
 
 -- the entry of a number that the list has not
-pub record Enters (l : Listing) (n : ℕ) (e : Entry) : Type 0 where
-  pub name : has l n ≡ false → e.name.now ≡ unknown
-  pub words : has l n ≡ false → e.words.now ≡ no_such_number
+pub record Enters (t : Table) (n : ℕ) (e : Entry) : Type 0 where
+  pub name : holds t n ≡ false → e.name.now ≡ unknown
+  pub words : holds t n ≡ false → e.words.now ≡ no_such_number
 
 -- the name of an entry
-pub record Names {R : Type 0} (l : Listing) (n : ℕ) (o o' : Output R) : Type 0 where
+pub record Names {R : Type 0} (t : Table) (n : ℕ) (o o' : Output R) : Type 0 where
   pub entry : Entry
-  pub enters : Enters l n entry
+  pub enters : Enters t n entry
   pub puts : Puts (entry.name.now ∷ []) o o'
 
 -- ` name (words)`
@@ -31,7 +33,7 @@ case_text name words = (32 ∷ []) ∷ name ∷ (32 ∷ 40 ∷ []) ∷ words ∷
 
 pub record Cases {R : Type 0} (l : Listing) (n : ℕ) (o o' : Output R) : Type 0 where
   pub entry : Entry
-  pub enters : Enters l n entry
+  pub enters : Enters (Of l) n entry
   pub puts : Puts (case_text entry.name.now entry.words.now) o o'
 
 -- ` # ` and a refusal's words, and behind `: ` those of the check, where its place is not 0
@@ -41,7 +43,7 @@ refused_text place words check = (32 ∷ 35 ∷ 32 ∷ []) ∷ words ∷ cond (e
 pub record Refuses {R : Type 0} (n place : ℕ) (o o' : Output R) : Type 0 where
   pub refusal : Entry
   pub check : List ℕ
-  pub enters : Enters Refusals n refusal
+  pub enters : Enters (Of Refusals) n refusal
   pub checks : eqb place 0 ≡ false → has Places place ≡ false → check ≡ no_such_number
   pub puts : Puts (refused_text place refusal.words.now check) o o'
 
@@ -54,5 +56,5 @@ cycle_text passed name words = (32 ∷ 35 ∷ 32 ∷ 99 ∷ 121 ∷ 99 ∷ 108 �
 
 pub record Cycle {R : Type 0} (kind : ℕ) (passed : Bool) (o o' : Output R) : Type 0 where
   pub entry : Entry
-  pub enters : Enters Cycles kind entry
+  pub enters : Enters (Of Cycles) kind entry
   pub puts : Puts (cycle_text passed entry.name.now entry.words.now) o o'

@@ -2,26 +2,26 @@
 ghost use Rattle.text_events.specs.Named.{Enters, Names, Cases, Refuses, Cycle};
 
 use text_lines::Output;
-use text_lists::{Entry, List, UNKNOWN};
+use text_lists::{Entry, List, Table, UNKNOWN};
 
-fn entry_of(list: List, number: u64) -> Entry
-    ensures { Enters list number result }
+fn entry_of(table: Table, number: u64) -> Entry
+    ensures { Enters table number result }
 {
-    list.get(number).copied().unwrap_or(UNKNOWN)
+    table.get(number).copied().unwrap_or(UNKNOWN)
 }
 
 // The name of entry `number` of a list.
-pub fn write_name(out: &mut Output<'_, '_, impl Print>, list: List, number: u64)
-    ensures { Names list number out.old out.new }
+pub fn write_name(out: &mut Output<'_, '_, impl Print>, table: Table, number: u64)
+    ensures { Names table number out.old out.new }
 {
-    out.bytes(entry_of(list, number).name);
+    out.bytes(entry_of(table, number).name);
 }
 
 // ` `, the name of a case and its words in brackets.
 pub(crate) fn write_case(out: &mut Output<'_, '_, impl Print>, list: List, number: u64)
     ensures { Cases list number out.old out.new }
 {
-    let entry = entry_of(list, number);
+    let entry = entry_of(Table::Of(list), number);
     out.bytes(b" ");
     out.bytes(entry.name);
     out.bytes(b" (");
@@ -34,10 +34,10 @@ pub fn write_refused(out: &mut Output<'_, '_, impl Print>, number: u64, place: u
     ensures { Refuses number place out.old out.new }
 {
     out.bytes(b" # ");
-    out.bytes(entry_of(List::Refusals, number).words);
+    out.bytes(entry_of(Table::Of(List::Refusals), number).words);
     if place != 0 {
         out.bytes(b": ");
-        out.bytes(entry_of(List::Places, place).words);
+        out.bytes(entry_of(Table::Of(List::Places), place).words);
     }
 }
 

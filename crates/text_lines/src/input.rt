@@ -26,7 +26,7 @@ impl fmt::Display for Unread {
 
 // What a reader still has: more may come, or it has ended, or it cannot be read.
 #[derive(Clone, Copy, PartialEq, Eq)]
-enum Rest {
+pub enum Rest {
     More,
     Ended,
     Failed,
@@ -58,6 +58,31 @@ impl<'a, F: Read> Input<'a, F> {
             next: 0,
             filled: 0,
             rest: Rest::More,
+        }
+    }
+
+    // A buffer that holds bytes already, of which those from `next` to `filled` are not read yet, and what the reader
+    // still has. Places past the buffer stand for its end.
+    pub fn of(
+        from: &'a mut F,
+        buffer: &'a mut [u8],
+        next: usize,
+        filled: usize,
+        rest: Rest,
+    ) -> Input<'a, F>
+        ensures from { result.from.ghost_name ≡ from.entry.ghost_name }
+        ensures buffer { (result.buffer.ghost_name ≡ buffer.entry.ghost_name) × (result.buffer.now ≡ buffer.old) }
+        ensures unread { (result.next ≡ next) × (result.filled ≡ filled) }
+        ensures rest { result.rest ≡ rest }
+    {
+        Input {
+            from,
+            buffer,
+            start: 0,
+            end: 0,
+            next,
+            filled,
+            rest,
         }
     }
 

@@ -6,7 +6,7 @@ mod output;
 mod parts;
 mod report;
 
-pub use input::{Input, Unread, line_end};
+pub use input::{Input, Rest, Unread, line_end};
 pub use output::{Output, put, put_number};
 pub use parts::Ascii;
 pub use report::{

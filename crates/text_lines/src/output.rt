@@ -38,7 +38,7 @@ pub struct Output<'r, 'b, R> {
     pub rt: &'r R,
     pub buffer: &'b mut [u8],
     pub at: usize,
-    pub(crate) failed: bool,
+    pub failed: bool,
 }
 
 impl<'r, 'b, R: Print> Output<'r, 'b, R> {

@@ -20,14 +20,24 @@ pub fn tell(rt: &impl Eprint, number: u64, words: impl Display + Drop) {
 // What is wrong with the field at which the scan of a line stopped:
 // `line 7: field 3, "12x", is not a number.` Here and in the next four functions a field that is
 // empty, has a tab or begins with a byte order mark is told as that.
-pub fn tell_fault(rt: &impl Eprint, number: u64, scan: &Scan<'_>, fault: Fault) {
-    tell_field(rt, number, scan, format_args!("{fault}."));
+pub fn tell_fault(rt: &impl Eprint, number: u64, scan: &Scan<'_>, fault: impl Into<Option<Fault>>) {
+    match fault.into() {
+        Some(fault) => tell_field(rt, number, scan, format_args!("{fault}.")),
+        None => tell_field(rt, number, scan, "is right."),
+    }
 }
 
 // As `tell_fault`, with the most that a number can be: `.. is too large: at most 65535.` A number
 // below 0 that does not fit is too small: those with a sign reach down to -2^31.
-pub fn tell_most(rt: &impl Eprint, number: u64, scan: &Scan<'_>, fault: Fault, most: u64) {
-    if fault != Fault::TooLarge {
+pub fn tell_most(
+    rt: &impl Eprint,
+    number: u64,
+    scan: &Scan<'_>,
+    fault: impl Into<Option<Fault>>,
+    most: u64,
+) {
+    let fault = fault.into();
+    if fault != Some(Fault::TooLarge) {
         tell_fault(rt, number, scan, fault);
     } else if scan.bytes().starts_with(b"-") {
         tell_field(rt, number, scan, "is too small: at least -2147483648.");
@@ -63,9 +73,10 @@ pub fn tell_missing(
     rt: &impl Eprint,
     number: u64,
     scan: &Scan<'_>,
-    fault: Fault,
+    fault: impl Into<Option<Fault>>,
     what: impl Display + Drop,
 ) {
+    let fault = fault.into();
     if scan.field().is_ok() {
         tell_fault(rt, number, scan, fault);
     } else {

@@ -2,6 +2,8 @@
 use Rattle.std.specs.Prelude.{ℕ, ◌+◌, Bool, false, cond, ltb}
 use Rattle.text_lists.specs.declared.List.{List}
 use Rattle.text_lists.specs.declared.List.TheVariants.{Messages, Slots, Purposes, Roles, Evidence, Reasons, Causes, Teardowns, Starts, Cycles, Waits, Refusals, Places}
+use Rattle.text_lists.specs.declared.Table.{Table}
+use Rattle.text_lists.specs.declared.Table.TheVariants.{Events, Of}
 use Rattle.text_lists.specs.declared.Sign.{Sign}
 use Rattle.text_lists.specs.declared.Sign.TheVariants.{Number, MayNumber, Tag, MayTag, Case, Zero}
 
@@ -44,6 +46,28 @@ count_of Places = 15
 -- whether a list has an entry with a number
 abbrev pub has : List → ℕ → Bool
 has l n = cond (ltb n (first_of l)) false (ltb n (first_of l + count_of l))
+
+-- the number of a list; that of the events is 0
+abbrev pub table_no : Table → ℕ
+table_no Events = 0
+table_no (Of Messages) = 1
+table_no (Of Slots) = 2
+table_no (Of Purposes) = 3
+table_no (Of Roles) = 4
+table_no (Of Evidence) = 5
+table_no (Of Reasons) = 6
+table_no (Of Causes) = 7
+table_no (Of Teardowns) = 8
+table_no (Of Starts) = 9
+table_no (Of Cycles) = 10
+table_no (Of Waits) = 11
+table_no (Of Refusals) = 12
+table_no (Of Places) = 13
+
+-- whether any of the lists has an entry with a number
+abbrev pub holds : Table → ℕ → Bool
+holds Events n = ltb n events_count
+holds (Of l) n = has l n
 
 abbrev pub width_of : Sign → ℕ
 width_of Number = 1

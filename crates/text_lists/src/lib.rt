@@ -3,9 +3,9 @@
 // lists. No function has a `requires`.
 #![tactic(auto)]
 
-ghost use Rattle.std.specs.Prelude.{◌≡◌, length, ltb};
+ghost use Rattle.std.specs.Prelude.{◌≡◌, length, ltb, min};
 ghost use Rattle.std.specs.Option.{is_some};
-ghost use Rattle.text_lists.specs.Lists.{events_count, first_of, count_of, has, width_of};
+ghost use Rattle.text_lists.specs.Lists.{events_count, first_of, count_of, has, table_no, holds, width_of};
 
 mod words;
 
@@ -25,6 +25,13 @@ pub enum List {
     Waits,
     Refusals,
     Places,
+}
+
+// Any of the lists.
+#[derive(Clone, Copy, PartialEq, Eq)]
+pub enum Table {
+    Events,
+    Of(List),
 }
 
 // What a field of an event tells, and how many words of the log it takes: a number or a tag, one that may
@@ -115,6 +122,42 @@ impl List {
             List::Waits => &words::WAITS,
             List::Refusals => &words::REFUSALS,
             List::Places => &words::PLACES,
+        }
+    }
+}
+
+impl Table {
+    // Entry `number`.
+    pub fn get(self, number: u64) -> Option<&'static Entry>
+        ensures { is_some result ≡ holds self number }
+    {
+        match self {
+            Table::Events => Some(&Event::get(number)?.entry),
+            Table::Of(list) => list.get(number),
+        }
+    }
+}
+
+// The list that a number stands for: that of the events is 0, and a number past the lists stands for the last.
+impl From<u8> for Table {
+    fn from(number: u8) -> Table
+        ensures { table_no result ≡ min number 13 }
+    {
+        match number {
+            0 => Table::Events,
+            1 => Table::Of(List::Messages),
+            2 => Table::Of(List::Slots),
+            3 => Table::Of(List::Purposes),
+            4 => Table::Of(List::Roles),
+            5 => Table::Of(List::Evidence),
+            6 => Table::Of(List::Reasons),
+            7 => Table::Of(List::Causes),
+            8 => Table::Of(List::Teardowns),
+            9 => Table::Of(List::Starts),
+            10 => Table::Of(List::Cycles),
+            11 => Table::Of(List::Waits),
+            12 => Table::Of(List::Refusals),
+            _ => Table::Of(List::Places),
         }
     }
 }
