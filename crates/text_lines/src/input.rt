@@ -40,9 +40,9 @@ pub struct Input<'a, F> {
     buffer: &'a mut [u8],
     start: usize,
     end: usize,
-    next: usize,
-    filled: usize,
-    rest: Rest,
+    pub next: usize,
+    pub filled: usize,
+    pub rest: Rest,
 }
 
 impl<'a, F: Read> Input<'a, F> {
