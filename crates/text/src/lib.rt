@@ -9,5 +9,7 @@ mod scan;
 mod signed;
 
 pub use fault::Fault;
-pub use field::{Field, find, ordinal};
-pub use scan::Scan;
+pub use field::{Field, find, next_field, ordinal};
+pub use number::parse;
+pub use scan::{Scan, place_of};
+pub use signed::parse_signed;
