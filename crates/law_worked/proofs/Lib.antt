@@ -4,4 +4,5 @@ pub mod Pass
 pub mod Passes
 pub mod Slots
 pub mod Backs
+pub mod ItemKinds
 pub mod Std
