@@ -4,3 +4,4 @@ pub mod Due
 pub mod Named
 pub mod Moves
 pub mod Passes
+pub mod ItemKinds

@@ -1,10 +1,10 @@
 -- What holds of each or of some element of a list, through the lists that a pass is made by.
-use Rattle.std.specs.Prelude.{ℕ, Bool, ◌&&◌, ◌||◌, ◌⊎◌, ◌≡◌, eqb}
+use Rattle.std.specs.Prelude.{ℕ, zero, suc, ◌<◌, Bool, ◌&&◌, ◌||◌, ◌⊎◌, ◌≡◌, eqb, length, get_or}
 use Rattle.std.proofs.Math.Bool.{true, false}
 use Rattle.std.proofs.lemmas.Bool.{false≢true}
 use Rattle.std.proofs.Math.Logic.{inl, inr, ⊎_elim}
 use Rattle.std.proofs.Math.Path.{refl}
-use Rattle.std.proofs.Common.{ap₂, eqb-true}
+use Rattle.std.proofs.Common.{ap₂, arith, eqb-true}
 use mathlib.Core.List.{List, [], ◌∷◌, ◌++◌, map}
 use Rattle.time.specs.Pick.{pick}
 use Rattle.time.specs.Lists.{fold, kept}
@@ -43,6 +43,12 @@ module _ {A : Type 0} (P : A → Type 0) where
       under : (b : Bool) → (b ≡ true → P a) → Each P (kept t l) → Each P (pick b (a ∷ kept t l) (kept t l))
       under true f rest = (f refl, rest)
       under false f rest = rest
+
+  -- the element at a place
+  pub each-at : (l : List A) (i : ℕ) (a : A) → i < length l → Each P l → P (get_or l i a)
+  each-at [] i a h p = absurd (omega arith)
+  each-at (b ∷ l) zero a h p = p.0
+  each-at (b ∷ l) (suc i) a h p = each-at l i a (omega arith) p.1
 
   pub some_left : (l m : List A) → Some P l → Some P (l ++ m)
   some_left [] m h = absurd h
@@ -94,7 +100,7 @@ some_of P f (a ∷ l) (inr h) = inr (some_of P f l h)
 -- ---- in another order
 
 module _ (P : Item → Type 0) where
-  each-insert : (x : Item) (l : List Item) → P x → Each P l → Each P (insert x l)
+  pub each-insert : (x : Item) (l : List Item) → P x → Each P l → Each P (insert x l)
   unfolding insert
   each-insert x [] p h = (p, tt)
   each-insert x (y ∷ l) p h = under (before x y) (each-insert x l p h.1)

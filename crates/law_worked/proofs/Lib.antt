@@ -4,5 +4,4 @@ pub mod Pass
 pub mod Passes
 pub mod Slots
 pub mod Backs
-pub mod ItemKinds
 pub mod Std
